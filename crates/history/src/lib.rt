@@ -1,0 +1,9 @@
+// Histories: the actions that a table keeps, behind one interface with two ways to keep them.
+mod faults;
+mod interface;
+mod racks;
+
+pub use faults::HistoryFault;
+pub use interface::History;
+pub use racks::Rack;
+pub use racks::RackHistory;
