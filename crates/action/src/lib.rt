@@ -12,7 +12,7 @@ pub use limits::MOST_ARTICLES;
 pub use limits::MOST_PLACES;
 pub use limits::MOST_SITES;
 pub use limits::MOST_WRITES;
-pub use orders::Action;
+pub use orders::{Action, ActionDebug, ActionEq, ActionPartialEq};
 pub use refusals::Layer;
 pub use refusals::Refusal;
 pub use setups::Setup;

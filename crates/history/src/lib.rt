@@ -3,7 +3,7 @@ mod faults;
 mod interface;
 mod racks;
 
-pub use faults::HistoryFault;
+pub use faults::{HistoryFault, HistoryFaultDebug, HistoryFaultEq, HistoryFaultPartialEq};
 pub use interface::History;
 pub use racks::Rack;
 pub use racks::RackHistory;

@@ -1,0 +1,4 @@
+// Kinds of figure, behind one interface.
+mod interface;
+
+pub use interface::Kind;

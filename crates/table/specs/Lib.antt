@@ -1,0 +1,5 @@
+pub mod Answers
+pub mod Faults
+pub mod Offers
+pub mod Transactions
+pub mod View

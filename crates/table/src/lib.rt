@@ -1,0 +1,13 @@
+// One site's table: its articles' figures and what is known of the other sites, kept up by
+// transactions of its own and by messages from the others.
+mod answers;
+mod faults;
+mod rows;
+mod state;
+mod tables;
+mod tickets;
+mod transactions;
+
+pub use faults::{HistoryInTable, TableFault};
+pub use tables::Table;
+pub use tickets::Ticket;
