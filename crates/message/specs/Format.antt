@@ -39,14 +39,19 @@ recordBytes (record-kinds.Section s) = sectionBytes s
 recordBytes (record-kinds.Interval i) = intervalBytes i
 recordBytes (record-kinds.Action a) = actionBytes a
 
-abbrev pub sectionRecords : Section → List Record
-sectionRecords s =
-    record-kinds.Section (record { article = s .article; intervals = length (s .intervals); actions = length (s .actions) }) ∷ (map record-kinds.Interval (s .intervals) ++ map record-kinds.Action (s .actions))
+abbrev pub headOf : Section → SectionHead
+headOf s = record { article = s .article; intervals = length (s .intervals); actions = length (s .actions) }
 
--- the header, then each section: its head, its intervals and its actions
+-- a section's records: its head, its intervals and its actions
+abbrev pub sectionRecords : Section → List Record
+sectionRecords s = record-kinds.Section (headOf s) ∷ (map record-kinds.Interval (s .intervals) ++ map record-kinds.Action (s .actions))
+
+abbrev pub headerOf : Message → Header
+headerOf m = record { group = m .group; kind = m .kind; sender = m .sender; sections = length (m .sections) }
+
+-- the header, then the sections
 abbrev pub records : Message → List Record
-records m =
-    record-kinds.Header (record { group = m .group; kind = m .kind; sender = m .sender; sections = length (m .sections) }) ∷ joined sectionRecords (m .sections)
+records m = record-kinds.Header (headerOf m) ∷ joined sectionRecords (m .sections)
 
 abbrev pub format : Message → List ℕ
 format m = joined recordBytes (records m)

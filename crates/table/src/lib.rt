@@ -2,6 +2,7 @@
 // transactions of its own and by messages from the others.
 mod answers;
 mod faults;
+mod makes;
 mod rows;
 mod state;
 mod tables;
