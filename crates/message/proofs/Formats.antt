@@ -1,16 +1,18 @@
 -- A message's bytes, part by part. Assumes nothing.
 use mathlib.Core.Path.{_≡_, refl, sym, ap, _∙_}
 use mathlib.Core.List.{List, [], _∷_, _++_, map}
-use Prim.Native.Nat.{ℕ, suc, _+_, _*_}
+use Prim.Native.Nat.{ℕ, suc, _+_, _*_, _≤_}
 use native.Mathlib.Omega.{arith}
 use lib.ListN.{length}
 use Rattle.std.specs.Joined.{joined}
 use Rattle.std.proofs.shelf.Lists.{append-assoc, append-nil, length-append, joined-more}
 use Rattle.action.specs.declared.orders.Action.{Action}
 use Rattle.action.specs.Bytes.{actionBytes}
+use Rattle.message.proofs.Buffers.{overwritten-more}
 use Rattle.message.specs.declared.records.Interval.{Interval}
 use Rattle.message.specs.declared.records.Record.{Record}
 use Rattle.message.specs.declared.records.Record.the-variants as record-kinds
+use Rattle.message.specs.Buffer.{overwritten}
 use Rattle.message.specs.Format.{Message, Section, format, headOf, headerBytes, headerOf, intervalBytes, recordBytes, sectionBytes, sectionRecords}
 
 pub joined-append : {X A : Type 0} (f : X → List A) (xs ys : List X) → joined f (xs ++ ys) ≡ joined f xs ++ joined f ys
@@ -52,3 +54,8 @@ length-section s = ap length (section-is s) ∙ length-append (sectionBytes (hea
 
 pub format-is : (m : Message) → format m ≡ headerBytes (headerOf m) ++ joined sectionFormat (m .sections)
 format-is m = ap (λ l. headerBytes (headerOf m) ++ l) (joined-joined recordBytes sectionRecords (m .sections))
+
+-- a loop that writes f x after f of each before it
+pub written-more : {X : Type 0} (f : X → List ℕ) (b b₁ b₂ : List ℕ) (start at : ℕ) (xs : List X) (x : X) → at ≡ start + length (joined f xs) → at ≤ length b → b₁ ≡ overwritten b start (joined f xs) → b₂ ≡ overwritten b₁ at (f x) → b₂ ≡ overwritten b start (joined f (xs ++ (x ∷ [])))
+written-more f b b₁ b₂ start at xs x far fits so step =
+    step ∙ (λ i. overwritten (so i) (far i) (f x)) ∙ overwritten-more b start (joined f xs) (omega arith) (f x) ∙ ap (overwritten b start) (sym (joined-push f xs x))

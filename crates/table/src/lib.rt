@@ -1,8 +1,10 @@
 // One site's table: its articles' figures and what is known of the other sites, kept up by
 // transactions of its own and by messages from the others.
 mod answers;
+mod emits;
 mod faults;
 mod makes;
+mod offers;
 mod rows;
 mod state;
 mod tables;
