@@ -108,7 +108,7 @@ commitRefusal kind v t =
 
 -- the last time on the article, 0 where there is none
 abbrev pub latest : ℕ → List Action → ℕ
-latest a xs = folded (λ _ x. x .time) 0 (on a xs)
+latest a xs = folded (λ t x. max t (x .time)) 0 (on a xs)
 
 -- a commuting kind steps the kept figure by the new actions alone, any other works again from the base
 abbrev pub figureAfter : Meaning → ℕ → Row → List Action → List Action → ℤ

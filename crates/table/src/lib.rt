@@ -5,6 +5,7 @@ mod emits;
 mod faults;
 mod makes;
 mod offers;
+mod pendings;
 mod rows;
 mod state;
 mod tables;
