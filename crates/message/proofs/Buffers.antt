@@ -2,7 +2,7 @@
 use mathlib.Core.Path.{_≡_, refl, sym, ap, _∙_}
 use mathlib.Core.List.{List, [], _∷_, _++_}
 use Prim.Native.Nat.{ℕ, _+_, _-_, _≤_}
-use native.Mathlib.Nat.{add-assoc, zero-add}
+use native.Mathlib.Nat.{add-assoc}
 use native.Mathlib.Omega.{arith}
 use lib.ListN.{length, take, drop}
 use Rattle.std.proofs.shelf.Lists.{append-assoc, drop-at, drop-drop, length-append, length-drop, length-take-le, take-at, take-append-drop}
@@ -30,7 +30,6 @@ module _ (b : List ℕ) (at : ℕ) (xs : List ℕ) (fits : at + length xs ≤ le
   overwritten-more ys =
       (λ i. take-overwritten i ++ (ys ++ drop-overwritten (length ys) i)) ∙ append-assoc (take at b) xs _ ∙ ap (λ l. take at b ++ l) (sym (append-assoc xs ys _) ∙ ap (λ n. (xs ++ ys) ++ drop n b) (add-assoc at (length xs) (length ys) ∙ ap (λ n. at + n) (sym (length-append xs ys))))
 
--- a write from the start, and the next one right after it
-pub written-then : (b b₁ b₂ xs ys : List ℕ) (at : ℕ) → at ≡ length xs → at ≤ length b → b₁ ≡ overwritten b 0 xs → b₂ ≡ overwritten b₁ at ys → b₂ ≡ overwritten b 0 (xs ++ ys)
-written-then b b₁ b₂ xs ys at far fits first next =
-    next ∙ (λ i. overwritten (first i) ((far ∙ sym (zero-add (length xs))) i) ys) ∙ overwritten-more b 0 xs (omega arith) ys
+-- a write, and the next one right after it
+pub written-then : (b b₁ b₂ xs ys : List ℕ) (start at : ℕ) → at ≡ start + length xs → at ≤ length b → b₁ ≡ overwritten b start xs → b₂ ≡ overwritten b₁ at ys → b₂ ≡ overwritten b start (xs ++ ys)
+written-then b b₁ b₂ xs ys start at far fits first next = next ∙ (λ i. overwritten (first i) (far i) ys) ∙ overwritten-more b start xs (omega arith) ys

@@ -8,12 +8,12 @@ use Rattle.std.specs.Joined.{joined}
 use Rattle.std.proofs.shelf.Lists.{append-assoc, append-nil, length-append, joined-more}
 use Rattle.action.specs.declared.orders.Action.{Action}
 use Rattle.action.specs.Bytes.{actionBytes}
-use Rattle.message.proofs.Buffers.{overwritten-more}
+use Rattle.message.proofs.Buffers.{written-then}
 use Rattle.message.specs.declared.records.Interval.{Interval}
 use Rattle.message.specs.declared.records.Record.{Record}
 use Rattle.message.specs.declared.records.Record.the-variants as record-kinds
 use Rattle.message.specs.Buffer.{overwritten}
-use Rattle.message.specs.Format.{Message, Section, format, headOf, headerBytes, headerOf, intervalBytes, recordBytes, sectionBytes, sectionRecords}
+use Rattle.message.specs.Format.{Message, Section, format, headOf, headerBytes, headerOf, intervalBytes, recordBytes, sectionBytes, sectionFormat, sectionRecords}
 
 pub joined-append : {X A : Type 0} (f : X → List A) (xs ys : List X) → joined f (xs ++ ys) ≡ joined f xs ++ joined f ys
 joined-append f [] ys = refl
@@ -35,9 +35,6 @@ pub length-joined : {X A : Type 0} (f : X → List A) (k : ℕ) → ((x : X) →
 length-joined f k each [] = omega arith
 length-joined f k each (x ∷ xs) = length-append (f x) (joined f xs) ∙ (λ i. each x i + length-joined f k each xs i) ∙ grind arith
 
-abbrev pub sectionFormat : Section → List ℕ
-sectionFormat s = joined recordBytes (sectionRecords s)
-
 abbrev pub bodyBytes : List Interval → List Action → List ℕ
 bodyBytes intervals actions = joined intervalBytes intervals ++ joined actionBytes actions
 
@@ -58,4 +55,4 @@ format-is m = ap (λ l. headerBytes (headerOf m) ++ l) (joined-joined recordByte
 -- a loop that writes f x after f of each before it
 pub written-more : {X : Type 0} (f : X → List ℕ) (b b₁ b₂ : List ℕ) (start at : ℕ) (xs : List X) (x : X) → at ≡ start + length (joined f xs) → at ≤ length b → b₁ ≡ overwritten b start (joined f xs) → b₂ ≡ overwritten b₁ at (f x) → b₂ ≡ overwritten b start (joined f (xs ++ (x ∷ [])))
 written-more f b b₁ b₂ start at xs x far fits so step =
-    step ∙ (λ i. overwritten (so i) (far i) (f x)) ∙ overwritten-more b start (joined f xs) (omega arith) (f x) ∙ ap (overwritten b start) (sym (joined-push f xs x))
+    written-then b b₁ b₂ (joined f xs) (f x) start at far fits so step ∙ ap (overwritten b start) (sym (joined-push f xs x))

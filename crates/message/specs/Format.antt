@@ -46,6 +46,9 @@ headOf s = record { article = s .article; intervals = length (s .intervals); act
 abbrev pub sectionRecords : Section → List Record
 sectionRecords s = record-kinds.Section (headOf s) ∷ (map record-kinds.Interval (s .intervals) ++ map record-kinds.Action (s .actions))
 
+abbrev pub sectionFormat : Section → List ℕ
+sectionFormat s = joined recordBytes (sectionRecords s)
+
 abbrev pub headerOf : Message → Header
 headerOf m = record { group = m .group; kind = m .kind; sender = m .sender; sections = length (m .sections) }
 
