@@ -5,12 +5,14 @@ use Prim.Native.Nat.{ℕ, _<_, _≤_}
 use native.Mathlib.Omega.{arith}
 use lib.ListN.{length, getD}
 use Rattle.std.specs.Holes.{inserted, removed}
+use Rattle.std.specs.declared.option.Option.the-variants.{Some}
 use Rattle.std.specs.declared.result.Result.{Result}
 use Rattle.std.specs.declared.result.Result.the-variants.{Ok, Err}
 use Rattle.std.proofs.shelf.Ways.{tells}
 use Rattle.action.specs.declared.orders.Action.{Action}
+use Rattle.action.specs.declared.refusals.Refusal.{Refusal}
 use Rattle.history.specs.declared.faults.HistoryFault.{HistoryFault}
-use Rattle.history.specs.Changes.{Inserted, Read, Removed}
+use Rattle.history.specs.Changes.{Inserted, Read, Removed, insertRefusal}
 
 pub granted-read : (xs : List Action) (i : ℕ) (r : Result Action HistoryFault) → i < length xs → Read xs i r → (a : Action) × (r ≡ Ok a) × (a ≡ getD xs i a)
 granted-read xs i (Ok a) within h = (a, refl, h .1)
@@ -23,3 +25,6 @@ granted-insert xs room i a (Err e) ys free within h = absurd (grind (arith, tell
 pub granted-remove : (xs : List Action) (i : ℕ) (r : Result Action HistoryFault) (ys : List Action) → i < length xs → Removed xs i r ys → ys ≡ removed xs i
 granted-remove xs i (Ok a) ys within h = h .2
 granted-remove xs i (Err e) ys within h = absurd (grind (arith, tells))
+
+pub refused-insert : (xs : List Action) (room i : ℕ) (e : Refusal) → length xs < room → i ≤ length xs → insertRefusal xs room i ≡ Some e → ⊥
+refused-insert xs room i e free within h = grind (arith, tells)

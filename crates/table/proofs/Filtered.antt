@@ -7,10 +7,11 @@ use native.Mathlib.Omega.{arith}
 use lib.Dec.{eqb}
 use lib.IntN.{pos}
 use lib.ListN.{length, getD, take}
+use Rattle.std.specs.Holes.{inserted}
 use Rattle.std.specs.Joined.{joined}
 use Rattle.std.specs.shelf.Lists.{kept-by}
 use Rattle.std.proofs.shelf.Elements.{kept-by-more}
-use Rattle.std.proofs.shelf.Lists.{append-nil, getD-default, length-append}
+use Rattle.std.proofs.shelf.Lists.{append-nil, drop-all, getD-default, length-append, take-all}
 use Rattle.std.proofs.shelf.Tests.{eq-eqb, ne-eqb}
 use Rattle.std.proofs.shelf.Sums.{length-kept-by, sumBy-take-le}
 use Rattle.action.specs.declared.orders.Action.{Action}
@@ -57,3 +58,6 @@ module _ (xs : List Action) (i : ℕ) (within : i < length xs) (a : ℕ) where
 
   pub on-same : (getD xs i noAction .article ≡ a → ⊥) → on a (take (i + 1) xs) ≡ on a (take i xs)
   on-same other = kept-no (λ x. eqb (x .article) a) xs i within (getD xs i noAction) (getD-default xs i _ _ within) (sym (ne-eqb _ a other))
+
+pub at-the-end : (xs : List Action) (i : ℕ) (a : Action) → i ≡ length xs → inserted xs i a ≡ xs ++ (a ∷ [])
+at-the-end xs i a e = (λ j. take-all i xs (omega arith) j ++ (a ∷ drop-all i xs (omega arith) j))

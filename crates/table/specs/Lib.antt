@@ -1,5 +1,6 @@
 pub mod Answers
 pub mod Faults
 pub mod Offers
+pub mod Rows
 pub mod Transactions
 pub mod View

@@ -6,6 +6,7 @@ mod faults;
 mod makes;
 mod offers;
 mod pendings;
+mod posts;
 mod rows;
 mod state;
 mod tables;
