@@ -2,8 +2,11 @@
 mod faults;
 mod interface;
 mod racks;
+mod strips;
 
 pub use faults::{HistoryFault, HistoryFaultDebug, HistoryFaultEq, HistoryFaultPartialEq};
 pub use interface::History;
 pub use racks::Rack;
 pub use racks::RackHistory;
+pub use strips::Strip;
+pub use strips::StripHistory;
