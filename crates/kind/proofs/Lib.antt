@@ -1,0 +1,3 @@
+pub mod FlagsLaws
+pub mod OnHandLaws
+pub mod PriceLaws

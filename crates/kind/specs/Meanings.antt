@@ -1,0 +1,54 @@
+-- What each kind knows, and how it steps its figure. Assumes nothing.
+use mathlib.Core.Bool.{Bool, _&&_, _||_, cond}
+use Prim.Native.Nat.{ℕ}
+use lib.Bits.{bitOr}
+use lib.Dec.{eqb}
+use lib.IntN.{ℤ, pos, negsuc, negℤ, _+ℤ_, _*ℤ_}
+use lib.Signed.{leZ, quotZ}
+use mir.Syntax.{w64}
+use mir.Val.{toZ, ofZ}
+use Rattle.std.specs.Numbers.{minZ, maxZ}
+use Rattle.std.specs.shelf.Signed.{wrapped}
+
+abbrev pub between : ℤ → ℤ → ℤ → Bool
+between low high z = leZ low z && leZ z high
+
+-- On hand. Operation 1 adds an amount from -1,000,000 to 1,000,000, modulo 2 ^ 64 in two's complement.
+
+abbrev pub onHandKnows : ℕ → ℤ → Bool
+onHandKnows o a = eqb o 1 && between (negℤ (pos 1000000)) (pos 1000000) a
+
+abbrev pub onHandStep : ℤ → ℕ → ℤ → ℤ
+onHandStep f o a = cond (onHandKnows o a) (wrapped w64 (f +ℤ a)) f
+
+-- Flags. Operation 1 switches on the bits of an amount from 1 to 16,777,215.
+
+abbrev pub flagsKnows : ℕ → ℤ → Bool
+flagsKnows o a = eqb o 1 && between (pos 1) (pos 16777215) a
+
+abbrev pub flagsStep : ℤ → ℕ → ℤ → ℤ
+flagsStep f o a = cond (flagsKnows o a) (toZ w64 (bitOr (ofZ w64 f) (ofZ w64 a))) f
+
+-- A price in cents, from 0 to 99,999,999. Operation 1 sets it; operation 2, with an amount a from -500
+-- to 500, makes it 1000 + a thousandths of what it was, the fraction dropped.
+
+abbrev pub highest : ℤ
+highest = pos 99999999
+
+abbrev pub held : ℤ → ℤ
+held f = maxZ (pos 0) (minZ f highest)
+
+abbrev pub setsPrice : ℕ → ℤ → Bool
+setsPrice o a = eqb o 1 && between (pos 0) highest a
+
+abbrev pub raisesPrice : ℕ → ℤ → Bool
+raisesPrice o a = eqb o 2 && between (negℤ (pos 500)) (pos 500) a
+
+abbrev pub priceKnows : ℕ → ℤ → Bool
+priceKnows o a = setsPrice o a || raisesPrice o a
+
+abbrev pub raised : ℤ → ℤ → ℤ
+raised f a = minZ (quotZ (held f *ℤ (pos 1000 +ℤ a)) (pos 1000)) highest
+
+abbrev pub priceStep : ℤ → ℕ → ℤ → ℤ
+priceStep f o a = cond (setsPrice o a) a (cond (raisesPrice o a) (raised f a) f)

@@ -1,0 +1,53 @@
+ghost use mathlib.Core.Bool.{true};
+ghost use lib.IntN.{pos};
+ghost use Rattle.kind.specs.Meanings.{flagsKnows, flagsStep};
+use crate::interface::Kind;
+
+// Flags, a bit for each: kind 2.
+#[derive(Clone, Copy)]
+pub struct Flags;
+
+const SWITCH_ON: u8 = 1;
+
+// All 24 flags.
+const ALL_FLAGS: i32 = 16_777_215;
+
+pub impl Kind for Flags as FlagsKind {
+    const KIND_NUMBER: u8 = 2;
+
+    const START_FIGURE: i64 = 0;
+
+    ghost numbered = { 2 };
+
+    ghost starts = { pos 0 };
+
+    ghost knows = { flagsKnows };
+
+    ghost steps = { flagsStep };
+
+    ghost commutes = { true };
+
+    fn number() -> u8 {
+        Self::KIND_NUMBER
+    }
+
+    fn start() -> i64 {
+        Self::START_FIGURE
+    }
+
+    fn is_known(operation: u8, amount: i32) -> bool {
+        operation == SWITCH_ON && 1 <= amount && amount <= ALL_FLAGS
+    }
+
+    fn step(figure: i64, operation: u8, amount: i32) -> i64 {
+        if Self::is_known(operation, amount) {
+            figure | i64::from(amount)
+        } else {
+            figure
+        }
+    }
+
+    fn is_commuting() -> bool {
+        true
+    }
+}
