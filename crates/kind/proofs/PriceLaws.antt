@@ -9,7 +9,7 @@ use mir.Syntax.{w64}
 use mir.Val.{SFits, toZ, ofZ}
 use Rattle.std.specs.Numbers.{minZ}
 use Rattle.std.proofs.shelf.Bits.{mul-le}
-use Rattle.std.proofs.shelf.Signed.{ints, toZ-ofZ}
+use Rattle.std.proofs.shelf.Signed.{ints, clamps, toZ-ofZ}
 use Rattle.kind.specs.Meanings.{held, highest, raised}
 
 abbrev bits : ℤ → ℤ
@@ -26,22 +26,31 @@ quotient-of : (z : ℤ) → SFits w64 z → SFits w64 (quotZ z (pos 1000))
 quotient-of (pos m) fits = omega (arith, ints)
 quotient-of (negsuc m) fits = omega (arith, ints)
 
--- h is the price held, and t the thousandths
-module _ (h t : ℤ) (h-fits : SFits w64 h) (t-fits : SFits w64 t) (h-low : pos 0 ≤ℤ h) (h-high : h ≤ℤ highest) (t-low : negℤ (pos 500) ≤ℤ t) (t-high : t ≤ℤ pos 500) where
+held-low : (f : ℤ) → pos 0 ≤ℤ held f
+held-low f = omega (arith, ints, clamps)
+
+held-high : (f : ℤ) → held f ≤ℤ highest
+held-high f = omega (arith, ints, clamps)
+
+-- h is the figure f held, and t the thousandths
+module _ (f h t : ℤ) (f-fits : SFits w64 f) (h-fits : SFits w64 h) (t-fits : SFits w64 t) (t-low : negℤ (pos 500) ≤ℤ t) (t-high : t ≤ℤ pos 500) (by-held : h ≡ held (bits f)) where
+  is-held : h ≡ held f
+  is-held = simp toZ-ofZ at by-held
+
   factor-fits : SFits w64 (pos 1000 +ℤ t)
   factor-fits = omega (arith, ints)
 
-  product-is-whole : SFits w64 (h *ℤ (pos 1000 +ℤ t))
-  product-is-whole = product-of h (pos 1000 +ℤ t) h-low h-high (omega (arith, ints)) (omega (arith, ints))
+  whole-product : SFits w64 (h *ℤ (pos 1000 +ℤ t))
+  whole-product =
+      product-of h (pos 1000 +ℤ t) (rw is-held (held-low f)) (rw is-held (held-high f)) (omega (arith, ints)) (omega (arith, ints))
 
   pub product-fits : SFits w64 (bits h *ℤ bits (pos 1000 +ℤ bits t))
-  product-fits = let e = factor-fits in simp toZ-ofZ product-is-whole
+  product-fits = let factor = factor-fits in simp toZ-ofZ whole-product
 
-  pub raised-is : (f r : ℤ) → SFits w64 f → SFits w64 r → h ≡ held (bits f) → r ≡ minZ (bits (quotZ (bits (bits h *ℤ bits (pos 1000 +ℤ bits t))) (pos 1000))) highest → bits r ≡ raised f t
-  raised-is f r f-fits r-fits by-clamp by-min =
+  pub raised-is : (r : ℤ) → SFits w64 r → r ≡ minZ (bits (quotZ (bits (bits h *ℤ bits (pos 1000 +ℤ bits t))) (pos 1000))) highest → bits r ≡ raised f t
+  raised-is r r-fits by-min =
       let factor = factor-fits in
-      let product = product-is-whole in
+      let product = whole-product in
       let quotient = quotient-of (h *ℤ (pos 1000 +ℤ t)) product in
-      let from-held : h ≡ held f = simp toZ-ofZ at by-clamp in
-      let from-quotient : r ≡ minZ (quotZ (h *ℤ (pos 1000 +ℤ t)) (pos 1000)) highest = simp toZ-ofZ at by-min in
-      toZ-ofZ w64 r r-fits ∙ from-quotient ∙ ap (λ z. minZ (quotZ (z *ℤ (pos 1000 +ℤ t)) (pos 1000)) highest) from-held
+      let is-least : r ≡ minZ (quotZ (h *ℤ (pos 1000 +ℤ t)) (pos 1000)) highest = simp toZ-ofZ at by-min in
+      toZ-ofZ w64 r r-fits ∙ is-least ∙ ap (λ z. minZ (quotZ (z *ℤ (pos 1000 +ℤ t)) (pos 1000)) highest) is-held

@@ -1,9 +1,10 @@
--- What each kind knows, and how it steps its figure. Assumes nothing.
+-- What each kind knows, and how it steps its figure f by an operation o and an amount a. Each starts at 0.
+-- Assumes nothing.
 use mathlib.Core.Bool.{Bool, _&&_, _||_, cond}
 use Prim.Native.Nat.{ℕ}
 use lib.Bits.{bitOr}
 use lib.Dec.{eqb}
-use lib.IntN.{ℤ, pos, negsuc, negℤ, _+ℤ_, _*ℤ_}
+use lib.IntN.{ℤ, pos, negℤ, _+ℤ_, _*ℤ_}
 use lib.Signed.{leZ, quotZ}
 use mir.Syntax.{w64}
 use mir.Val.{toZ, ofZ}
@@ -29,12 +30,14 @@ flagsKnows o a = eqb o 1 && between (pos 1) (pos 16777215) a
 abbrev pub flagsStep : ℤ → ℕ → ℤ → ℤ
 flagsStep f o a = cond (flagsKnows o a) (toZ w64 (bitOr (ofZ w64 f) (ofZ w64 a))) f
 
--- A price in cents, from 0 to 99,999,999. Operation 1 sets it; operation 2, with an amount a from -500
--- to 500, makes it 1000 + a thousandths of what it was, the fraction dropped.
+-- A price in cents. Operation 1 sets it to an amount from 0 to 99,999,999. Operation 2, with an amount a from
+-- -500 to 500, first holds the figure between 0 and 99,999,999, and then makes it 1000 + a thousandths of
+-- that, the fraction dropped, at most 99,999,999. What is not known leaves the figure as it is, and not held.
 
 abbrev pub highest : ℤ
 highest = pos 99999999
 
+-- the nearest to f from 0 to the highest
 abbrev pub held : ℤ → ℤ
 held f = maxZ (pos 0) (minZ f highest)
 
@@ -47,6 +50,7 @@ raisesPrice o a = eqb o 2 && between (negℤ (pos 500)) (pos 500) a
 abbrev pub priceKnows : ℕ → ℤ → Bool
 priceKnows o a = setsPrice o a || raisesPrice o a
 
+-- the quotient is of numbers that are not negative, so that it is rounded down
 abbrev pub raised : ℤ → ℤ → ℤ
 raised f a = minZ (quotZ (held f *ℤ (pos 1000 +ℤ a)) (pos 1000)) highest
 

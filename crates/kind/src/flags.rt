@@ -40,11 +40,10 @@ pub impl Kind for Flags as FlagsKind {
     }
 
     fn step(figure: i64, operation: u8, amount: i32) -> i64 {
-        if Self::is_known(operation, amount) {
-            figure | i64::from(amount)
-        } else {
-            figure
+        if !Self::is_known(operation, amount) {
+            return figure;
         }
+        figure | i64::from(amount)
     }
 
     fn is_commuting() -> bool {

@@ -40,11 +40,10 @@ pub impl Kind for OnHand as OnHandKind {
     }
 
     fn step(figure: i64, operation: u8, amount: i32) -> i64 {
-        if Self::is_known(operation, amount) {
-            figure.wrapping_add(i64::from(amount))
-        } else {
-            figure
+        if !Self::is_known(operation, amount) {
+            return figure;
         }
+        figure.wrapping_add(i64::from(amount))
     }
 
     fn is_commuting() -> bool {

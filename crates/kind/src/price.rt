@@ -2,7 +2,7 @@ ghost use mathlib.Core.Path.{_≡_};
 ghost use mathlib.Core.Bool.{false};
 ghost use lib.IntN.{pos, negℤ};
 ghost use lib.Signed.{_≤ℤ_};
-ghost use Rattle.kind.specs.Meanings.{priceKnows, priceStep, raised};
+ghost use Rattle.kind.specs.Meanings.{held, priceKnows, priceStep, raised};
 use crate::interface::Kind;
 
 // A price in cents: kind 3.
@@ -18,13 +18,20 @@ const HIGHEST: i64 = 99_999_999;
 // The most thousandths of the price that one action may add or take away.
 const MOST_RAISED: i64 = 500;
 
-// The price, held within its bounds, raised by so many thousandths of it; the fraction is dropped.
+// The nearest figure that is a price.
+fn held(figure: i64) -> i64
+    ensures { λ r. ⌜ r ≡ held figure ⌝ }
+{
+    figure.clamp(0, HIGHEST)
+}
+
+// The price with so many thousandths of it added; the fraction is dropped.
 fn raised(figure: i64, thousandths: i64) -> i64
     requires { ⌜ negℤ (pos 500) ≤ℤ thousandths ⌝ ∗ ⌜ thousandths ≤ℤ pos 500 ⌝ }
     ensures { λ r. ⌜ r ≡ raised figure thousandths ⌝ }
 {
-    let held = figure.clamp(0, HIGHEST);
-    (held * (1000 + thousandths) / 1000).min(HIGHEST)
+    let cents = held(figure) * (1000 + thousandths) / 1000;
+    cents.min(HIGHEST)
 }
 
 pub impl Kind for Price as PriceKind {
