@@ -1,0 +1,4 @@
+pub mod FlagsLaws
+pub mod OnHandLaws
+pub mod PriceLaws
+pub mod Workings
