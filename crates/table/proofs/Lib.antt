@@ -1,3 +1,5 @@
 pub mod Filtered
 pub mod Offering
+pub mod Posting
+pub mod RowLaws
 pub mod Sections

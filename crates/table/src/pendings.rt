@@ -77,7 +77,7 @@ impl<K: Kind, H: History> Table<K, H> {
     }
 
     // How many sections the message has, and its length.
-    fn measure(&self) -> (usize, usize)
+    pub(crate) fn measure(&self) -> (usize, usize)
         ensures sections { λ r. ⌜ r .0 ≡ length (writtenArticles (view items room (now (self .entry)))) ⌝ }
         ensures few { λ r. ⌜ r .0 ≤ 64 ⌝ }
         ensures bytes { λ r. ⌜ r .1 ≡ length (format (transactionMessage means (view items room (now (self .entry))))) ⌝ }
@@ -109,7 +109,7 @@ impl<K: Kind, H: History> Table<K, H> {
     }
 
     // Puts the message, of so many sections.
-    fn put_transaction(&self, sections: usize, buffer: &mut [u8])
+    pub(crate) fn put_transaction(&self, sections: usize, buffer: &mut [u8])
         requires { ⌜ sections ≡ length (writtenArticles (view items room (now self))) ⌝ ∗ ⌜ sections ≤ 64 ⌝ ∗ ⌜ length (format (transactionMessage means (view items room (now self)))) ≤ length (now buffer) ⌝ }
         ensures { λ _. ⌜ now (buffer .exit) ≡ overwritten (now (buffer .entry)) 0 (format (transactionMessage means (view items room (now (self .entry))))) ⌝ }
     {

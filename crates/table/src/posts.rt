@@ -1,4 +1,5 @@
 ghost use mathlib.Core.Path.{_≡_};
+ghost use mathlib.Core.Bool.{cond};
 ghost use mathlib.Core.List.{_++_, map};
 ghost use Prim.Native.Nat.{_+_, _<_, _≤_};
 ghost use lib.ListN.{length, getD};
@@ -54,7 +55,7 @@ pub(crate) fn step_row<K: Kind>(rows: &mut [Row], action: &Action)
 }
 
 // Steps the kept figures by the actions, in order.
-pub(crate) fn step_rows<K: Kind>(rows: &mut [Row], actions: &[Action])
+fn step_rows<K: Kind>(rows: &mut [Row], actions: &[Action])
     ensures { λ _. ⌜ now (rows .exit) ≡ folded (onRow (steppedRow (means .steps))) (now (rows .entry)) (now (actions .entry)) ⌝ }
 {
     for action in actions {
@@ -83,13 +84,25 @@ fn place<H: History>(history: &H, i: usize) -> Action
 }
 
 // Works every figure again, from its base by the history.
-pub(crate) fn rework<K: Kind, H: History>(rows: &mut [Row], history: &H)
+fn rework<K: Kind, H: History>(rows: &mut [Row], history: &H)
     ensures { λ _. ⌜ now (rows .exit) ≡ folded (onRow (steppedRow (means .steps))) (map restarted (now (rows .entry))) (items (now (history .entry))) ⌝ }
 {
     restart(rows);
     for i in 0..history.count() {
         let action = place(history, i);
         step_row::<K>(rows, &action);
+    }
+}
+
+// Works the figures after new actions have gone into the history: a commuting kind steps the kept
+// figures by the new actions alone, any other works again.
+pub(crate) fn work_rows<K: Kind, H: History>(rows: &mut [Row], history: &H, new: &[Action])
+    ensures { λ _. ⌜ now (rows .exit) ≡ cond (means .commutes) (folded (onRow (steppedRow (means .steps))) (now (rows .entry)) (now (new .entry))) (folded (onRow (steppedRow (means .steps))) (map restarted (now (rows .entry))) (items (now (history .entry)))) ⌝ }
+{
+    if K::is_commuting() {
+        step_rows::<K>(rows, new);
+    } else {
+        rework::<K, H>(rows, history);
     }
 }
 

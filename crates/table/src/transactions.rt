@@ -26,7 +26,7 @@ impl<K: Kind, H: History> Table<K, H> {
     }
 
     // Is this the ticket of the open transaction?
-    fn holds(&self, ticket: &Ticket) -> bool
+    pub(crate) fn holds(&self, ticket: &Ticket) -> bool
         ensures { λ r. ⌜ r ≡ holds means (view items room (now (self .entry))) (now (ticket .entry)) ⌝ }
     {
         self.state.is_open
