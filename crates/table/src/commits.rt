@@ -44,9 +44,7 @@ impl<K: Kind, H: History> Table<K, H> {
         self.state.is_open = false;
     }
 
-    // Commits the open transaction and spends its ticket. Answers how many actions it had, and the
-    // length of its message.
-    pub fn commit(&mut self, ticket: Ticket, buffer: &mut [u8]) -> Result<(usize, usize), (TableFault, Ticket)>
+    pub(crate) fn finish(&mut self, ticket: Ticket, buffer: &mut [u8]) -> Result<(usize, usize), (TableFault, Ticket)>
         ensures { λ r. ⌜ Committed means (view items room (now (self .entry))) ticket (now (buffer .entry)) r (view items room (now (self .exit))) (now (buffer .exit)) ⌝ }
     {
         if !self.holds(&ticket) {

@@ -9,8 +9,7 @@ use history::History;
 use kind::Kind;
 
 impl<K: Kind, H: History> Table<K, H> {
-    // Opens a transaction and hands out its ticket.
-    pub fn open(&mut self) -> Result<Ticket, TableFault>
+    pub(crate) fn begin(&mut self) -> Result<Ticket, TableFault>
         ensures { λ r. ⌜ Opened means (view items room (now (self .entry))) r (view items room (now (self .exit))) ⌝ }
     {
         if self.state.is_open {
@@ -36,8 +35,7 @@ impl<K: Kind, H: History> Table<K, H> {
             && ticket.clock == self.state.clock
     }
 
-    // Adds a pending action, and answers the time that it will have.
-    pub fn write(&mut self, ticket: &Ticket, article: u8, operation: u8, amount: i32) -> Result<u32, TableFault>
+    pub(crate) fn add(&mut self, ticket: &Ticket, article: u8, operation: u8, amount: i32) -> Result<u32, TableFault>
         ensures { λ r. ⌜ Wrote means (view items room (now (self .entry))) (now (ticket .entry)) article operation amount r (view items room (now (self .exit))) ⌝ }
     {
         if !self.holds(ticket) {
@@ -69,8 +67,7 @@ impl<K: Kind, H: History> Table<K, H> {
         Ok(before + 1)
     }
 
-    // Drops the pending actions and spends the ticket; the clock stays.
-    pub fn abandon(&mut self, ticket: Ticket) -> Result<(), (TableFault, Ticket)>
+    pub(crate) fn cancel(&mut self, ticket: Ticket) -> Result<(), (TableFault, Ticket)>
         ensures { λ r. ⌜ Abandoned means (view items room (now (self .entry))) ticket r (view items room (now (self .exit))) ⌝ }
     {
         if !self.holds(&ticket) {

@@ -11,7 +11,7 @@ use Rattle.std.proofs.shelf.Ways.{tells}
 use Rattle.action.specs.declared.orders.Action.{Action}
 use Rattle.table.specs.Transactions.{newAction, nextTime, withTransaction}
 use Rattle.table.specs.View.{view}
-use Rattle.table.proofs.tables.Table.write.Needs as need
+use Rattle.table.proofs.tables.Table.add.Needs as need
 
 pub returns-then-at-ge-MOST-WRITES : need.returns-then-at-ge-MOST-WRITES
 returns-then-at-ge-MOST-WRITES g c =
