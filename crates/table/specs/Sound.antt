@@ -8,6 +8,7 @@ use mir.Syntax.{w64}
 use mir.Val.{SFits}
 use Rattle.std.specs.shelf.Lists.{All}
 use Rattle.action.specs.declared.orders.Action.{Action}
+use Rattle.action.specs.declared.setups.Setup.{Setup}
 use Rattle.action.specs.Order.{Ascending}
 use Rattle.kind.specs.Meaning.{Meaning}
 use Rattle.kind.specs.Working.{knowsAction, on, working}
@@ -15,25 +16,25 @@ use Rattle.table.specs.declared.rows.Row.{Row}
 use Rattle.table.specs.View.{View, entry, row}
 
 -- an action that a table of this set-up may hold
-pub record Fitting (kind : Meaning) (v : View) (x : Action) : Type 0 where
-  pub coordinated : x .coordinator < v .setup .sites
+pub record Fitting (kind : Meaning) (setup : Setup) (x : Action) : Type 0 where
+  pub coordinated : x .coordinator < setup .sites
   pub timed : 1 ≤ x .time
   pub begun : 1 ≤ x .transaction
   pub in-turn : x .transaction ≤ x .time
-  pub listed : x .article < v .setup .articles
+  pub listed : x .article < setup .articles
   pub known : knowsAction (kind .knows) x ≡ true
 
--- the i-th pending action, counted from 0
-pub record Waiting (kind : Meaning) (v : View) (i : ℕ) (x : Action) : Type 0 where
-  pub coordinated : x .coordinator ≡ v .setup .own
-  pub timed : x .time ≡ v .clock + i + 1
-  pub numbered : x .transaction ≡ v .clock + 1
-  pub listed : x .article < v .setup .articles
+-- the i-th pending action, counted from 0, of a transaction that was opened at the clock's time
+pub record Waiting (kind : Meaning) (setup : Setup) (clock i : ℕ) (x : Action) : Type 0 where
+  pub coordinated : x .coordinator ≡ setup .own
+  pub timed : x .time ≡ clock + i + 1
+  pub numbered : x .transaction ≡ clock + 1
+  pub listed : x .article < setup .articles
   pub known : knowsAction (kind .knows) x ≡ true
 
-abbrev pub AllWaiting : Meaning → View → ℕ → List Action → Type 0
-AllWaiting kind v i [] = Unit {0}
-AllWaiting kind v i (x ∷ xs) = Waiting kind v i x × AllWaiting kind v (suc i) xs
+abbrev pub AllWaiting : Meaning → Setup → ℕ → ℕ → List Action → Type 0
+AllWaiting kind setup clock i [] = Unit {0}
+AllWaiting kind setup clock i (x ∷ xs) = Waiting kind setup clock i x × AllWaiting kind setup clock (suc i) xs
 
 -- known entries for eight sites each
 abbrev pub Square : Row → Type 0
@@ -43,7 +44,7 @@ pub record Sound (kind : Meaning) (v : View) : Type 0 where
   -- the history is in strict order and within its capacity
   pub ordered : Ascending (v .history)
   pub held : length (v .history) ≤ v .capacity
-  pub fitting : All (Fitting kind v) (v .history)
+  pub fitting : All (Fitting kind (v .setup)) (v .history)
   -- no action is above its coordinator's entry in the vector
   pub reached : All (λ x. x .time ≤ entry v (x .article) (v .setup .own) (x .coordinator)) (v .history)
   -- no entry is above the own one, and none of those above the clock
@@ -57,5 +58,5 @@ pub record Sound (kind : Meaning) (v : View) : Type 0 where
   pub square : All Square (v .rows)
   -- only an open transaction has pending actions
   pub few : length (v .pending) ≤ 16
-  pub waiting : AllWaiting kind v 0 (v .pending)
+  pub waiting : AllWaiting kind (v .setup) (v .clock) 0 (v .pending)
   pub closed : v .isOpen ≡ false → v .pending ≡ []
