@@ -4,7 +4,10 @@ mod interface;
 mod racks;
 mod strips;
 
-pub use faults::{HistoryFault, HistoryFaultDebug, HistoryFaultEq, HistoryFaultPartialEq};
+pub use faults::HistoryFault;
+pub use faults::HistoryFaultDebug;
+pub use faults::HistoryFaultEq;
+pub use faults::HistoryFaultPartialEq;
 pub use interface::History;
 pub use racks::Rack;
 pub use racks::RackHistory;

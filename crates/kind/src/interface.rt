@@ -10,6 +10,7 @@ ghost use Rattle.kind.specs.Meaning.{Meaning};
 // 0 to 255, and an amount, a signed number of 32 bits; each kind knows some of these pairs.
 pub trait Kind {
     const KIND_NUMBER: u8;
+
     const START_FIGURE: i64;
 
     ghost means: { Meaning };

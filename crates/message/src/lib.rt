@@ -2,5 +2,8 @@
 mod records;
 mod writer;
 
-pub use records::{Header, Interval, Record, SectionHead};
+pub use records::Header;
+pub use records::Interval;
+pub use records::Record;
+pub use records::SectionHead;
 pub use writer::put;

@@ -2,8 +2,11 @@ ghost use mathlib.Core.Path.{_≡_};
 ghost use Rattle.action.specs.Bytes.{actionBytes};
 ghost use Rattle.message.specs.Buffer.{Put};
 ghost use Rattle.message.specs.Format.{headerBytes, intervalBytes, recordBytes, sectionBytes};
+use crate::records::Header;
+use crate::records::Interval;
+use crate::records::Record;
+use crate::records::SectionHead;
 use action::Action;
-use crate::records::{Header, Interval, Record, SectionHead};
 
 // Puts the bytes at a place of the buffer, and answers the place after them; or `None`, and the
 // buffer stays, where they do not fit.
@@ -36,7 +39,11 @@ fn put_header(buffer: &mut [u8], at: usize, header: Header) -> Option<usize>
     ensures { λ r. ⌜ Put (now (buffer .entry)) at (headerBytes header) r (now (buffer .exit)) ⌝ }
 {
     let [g1, g0] = header.group.to_be_bytes();
-    put_bytes(buffer, at, &[b'H', g1, g0, header.kind, header.sender, header.sections])
+    put_bytes(
+        buffer,
+        at,
+        &[b'H', g1, g0, header.kind, header.sender, header.sections],
+    )
 }
 
 fn put_section(buffer: &mut [u8], at: usize, head: SectionHead) -> Option<usize>
@@ -51,7 +58,11 @@ fn put_interval(buffer: &mut [u8], at: usize, interval: Interval) -> Option<usiz
 {
     let [f3, f2, f1, f0] = interval.from.to_be_bytes();
     let [t3, t2, t1, t0] = interval.to.to_be_bytes();
-    put_bytes(buffer, at, &[b'I', interval.site, f3, f2, f1, f0, t3, t2, t1, t0])
+    put_bytes(
+        buffer,
+        at,
+        &[b'I', interval.site, f3, f2, f1, f0, t3, t2, t1, t0],
+    )
 }
 
 fn put_action(buffer: &mut [u8], at: usize, action: Action) -> Option<usize>

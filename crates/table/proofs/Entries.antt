@@ -25,9 +25,9 @@ module _ (known : List (List ℕ)) (z q t : ℕ) (eights : Eights known) where
   eights-raised = (
     length-set known z _ ∙ eights .0,
     ⊎-elim
-    (λ lt. all-set (λ entries. length entries ≡ 8) known z _ (length-set (getD known z []) q _ ∙ row-long lt) (eights .1))
-    (λ past. subst (All (λ entries. length entries ≡ 8)) (sym (set-past known z _ (omega (arith, eights .0)))) (eights .1))
-    (cases-lt z 8),
+        (λ lt. all-set (λ entries. length entries ≡ 8) known z _ (length-set (getD known z []) q _ ∙ row-long lt) (eights .1))
+        (λ past. subst (All (λ entries. length entries ≡ 8)) (sym (set-past known z _ (omega (arith, eights .0)))) (eights .1))
+        (cases-lt z 8),
   )
 
   pub at-raised : z < 8 → q < 8 → at (raised known z q t) z q ≡ max (at known z q) t

@@ -38,11 +38,10 @@ abbrev pub Sofar : List ℕ → ℕ → List Action → ℕ → List ℕ → Typ
 Sofar b start xs at b₁ = (at ≡ start + 16 * length xs) × (b₁ ≡ overwritten b start (joined actionBytes xs))
 
 pub sofar-more : (b : List ℕ) (start : ℕ) (xs ys : List Action) (a : Action) (at end : ℕ) (b₁ b₂ : List ℕ) → ys ≡ xs ++ (a ∷ []) → at ≤ length b → Sofar b start xs at b₁ → end ≡ at + 16 → b₂ ≡ overwritten b₁ at (actionBytes a) → Sofar b start ys end b₂
-sofar-more b start xs ys a at end b₁ b₂ more fits so far step =
-    (
-      omega (arith, ap length more, length-append xs (a ∷ [])),
-      written-more actionBytes b b₁ b₂ start at xs a (omega (arith, length-joined actionBytes 16 (λ _. refl) xs)) fits (so .1) step ∙ ap (λ l. overwritten b start (joined actionBytes l)) (sym more),
-    )
+sofar-more b start xs ys a at end b₁ b₂ more fits so far step = (
+  omega (arith, ap length more, length-append xs (a ∷ [])),
+  written-more actionBytes b b₁ b₂ start at xs a (omega (arith, length-joined actionBytes 16 (λ _. refl) xs)) fits (so .1) step ∙ ap (λ l. overwritten b start (joined actionBytes l)) (sym more),
+)
 
 pub ok-same : (m n : ℕ) → _≡_ {A = Result ℕ TableFault} (Ok m) (Ok n) → m ≡ n
 ok-same m n e = cc

@@ -4,4 +4,5 @@ pub mod Offering
 pub mod Posting
 pub mod RowLaws
 pub mod Sections
+pub mod Soundness
 pub mod Waiting

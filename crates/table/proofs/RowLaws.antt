@@ -44,9 +44,9 @@ module _ (change : Action → Row → Row) where
   row-onRows rows (x ∷ xs) a within =
       row-onRows (onRow change rows x) xs a (omega (arith, length-set rows (x .article) (change x (getD rows (x .article) noRow)))) ∙ ⊎-elim
       (λ same.
-          ap (λ r. folded (λ r x. change x r) r (on a xs)) (ap (λ n. getD (set rows n (change x (getD rows n noRow))) a noRow) same ∙ getD-set-same rows a (change x (getD rows a noRow)) noRow within) ∙ sym (ap (λ b. folded (λ r x. change x r) (getD rows a noRow) (cond b (x ∷ on a xs) (on a xs))) (eq-eqb (x .article) a same)))
+      ap (λ r. folded (λ r x. change x r) r (on a xs)) (ap (λ n. getD (set rows n (change x (getD rows n noRow))) a noRow) same ∙ getD-set-same rows a (change x (getD rows a noRow)) noRow within) ∙ sym (ap (λ b. folded (λ r x. change x r) (getD rows a noRow) (cond b (x ∷ on a xs) (on a xs))) (eq-eqb (x .article) a same)))
       (λ other.
-          ap (λ r. folded (λ r x. change x r) r (on a xs)) (getD-set-other rows (x .article) a _ noRow (λ e. other (sym e))) ∙ sym (ap (λ b. folded (λ r x. change x r) (getD rows a noRow) (cond b (x ∷ on a xs) (on a xs))) (ne-eqb (x .article) a other)))
+      ap (λ r. folded (λ r x. change x r) r (on a xs)) (getD-set-other rows (x .article) a _ noRow (λ e. other (sym e))) ∙ sym (ap (λ b. folded (λ r x. change x r) (getD rows a noRow) (cond b (x ∷ on a xs) (on a xs))) (ne-eqb (x .article) a other)))
       (cases-eq (x .article) a)
 
 -- a row stepped by actions
@@ -69,10 +69,10 @@ raised-twice known z q s t =
     let row₁ = set row q (max (getD row q 0) s) in
     ⊎-elim
     (λ within.
-        set-set known z row₁ _ ∙ ap (λ (r : List ℕ). set known z (set r q (max (getD r q 0) t))) (getD-set-same known z row₁ [] within) ∙ ap (set known z) (twice row q s t))
+    set-set known z row₁ _ ∙ ap (λ (r : List ℕ). set known z (set r q (max (getD r q 0) t))) (getD-set-same known z row₁ [] within) ∙ ap (set known z) (twice row q s t))
     (λ past.
-        let same : raised known z q s ≡ known = set-past known z row₁ past in
-        ap (λ (k : List (List ℕ)). raised k z q t) same ∙ set-past known z _ past ∙ sym (set-past known z _ past))
+    let same : raised known z q s ≡ known = set-past known z row₁ past in
+    ap (λ (k : List (List ℕ)). raised k z q t) same ∙ set-past known z _ past ∙ sym (set-past known z _ past))
     (cases-lt z (length known))
 
 -- an entry raised to 0 stays

@@ -28,8 +28,7 @@ module _ (kind : Meaning) (setup : Setup) (clock : ℕ) where
   pub waiting-fitting : (i : ℕ) (xs : List Action) → AllWaiting kind setup clock i xs → All (Fitting kind setup) xs
   waiting-fitting i [] h = tt
   waiting-fitting i (x ∷ xs) h =
-      let w = h .0 in
-      (
+      let w = h .0 in (
         record {
           coordinated = omega (arith, w .coordinated, setup .«own_site»);
           timed = omega (arith, w .timed);
@@ -44,19 +43,17 @@ module _ (kind : Meaning) (setup : Setup) (clock : ℕ) where
   -- their times lie above the clock and within the transaction's length of it
   pub waiting-times : (i : ℕ) (xs : List Action) → AllWaiting kind setup clock i xs → All (λ x. (clock + i < x .time) × (x .time ≤ clock + i + length xs)) xs
   waiting-times i [] h = tt
-  waiting-times i (x ∷ xs) h =
-      (
-        (omega (arith, h .0 .timed), omega (arith, h .0 .timed)),
-        all-weaker (λ y. (clock + suc i < y .time) × (y .time ≤ clock + suc i + length xs)) (λ y. (clock + i < y .time) × (y .time ≤ clock + i + suc (length xs))) (λ y k. (omega (arith, k .0), omega (arith, k .1))) xs (waiting-times (suc i) xs (h .1)),
-      )
+  waiting-times i (x ∷ xs) h = (
+    (omega (arith, h .0 .timed), omega (arith, h .0 .timed)),
+    all-weaker (λ y. (clock + suc i < y .time) × (y .time ≤ clock + suc i + length xs)) (λ y. (clock + i < y .time) × (y .time ≤ clock + i + suc (length xs))) (λ y k. (omega (arith, k .0), omega (arith, k .1))) xs (waiting-times (suc i) xs (h .1)),
+  )
 
   pub waiting-ascending : (i : ℕ) (xs : List Action) → AllWaiting kind setup clock i xs → Ascending xs
   waiting-ascending i [] h = tt
-  waiting-ascending i (x ∷ xs) h =
-      (
-        leads-later (clock + suc i) x xs (omega (arith, h .0 .timed)) (all-weaker (λ y. (clock + suc i < y .time) × (y .time ≤ clock + suc i + length xs)) (λ y. clock + suc i < y .time) (λ y k. k .0) xs (waiting-times (suc i) xs (h .1))),
-        waiting-ascending (suc i) xs (h .1),
-      )
+  waiting-ascending i (x ∷ xs) h = (
+    leads-later (clock + suc i) x xs (omega (arith, h .0 .timed)) (all-weaker (λ y. (clock + suc i < y .time) × (y .time ≤ clock + suc i + length xs)) (λ y. clock + suc i < y .time) (λ y k. k .0) xs (waiting-times (suc i) xs (h .1))),
+    waiting-ascending (suc i) xs (h .1),
+  )
 
   pub waiting-own : (i : ℕ) (xs : List Action) → AllWaiting kind setup clock i xs → All (λ x. x .coordinator ≡ setup .own) xs
   waiting-own i [] h = tt
@@ -91,9 +88,9 @@ latest-from t a [] = tt
 latest-from t a (x ∷ xs) =
     ⊎-elim
     (λ same. let on-is : on a (x ∷ xs) ≡ x ∷ on a xs = on-head a x xs same in
-        ((λ _. subst (λ l. x .time ≤ times t l) (sym on-is) (omega (arith, times-ge (max t (x .time)) (on a xs)))), subst (λ l. All (λ y. y .article ≡ a → y .time ≤ times t l) xs) (sym on-is) (latest-from (max t (x .time)) a xs)))
+    ((λ _. subst (λ l. x .time ≤ times t l) (sym on-is) (omega (arith, times-ge (max t (x .time)) (on a xs)))), subst (λ l. All (λ y. y .article ≡ a → y .time ≤ times t l) xs) (sym on-is) (latest-from (max t (x .time)) a xs)))
     (λ other. let on-is : on a (x ∷ xs) ≡ on a xs = on-tail a x xs other in
-        ((λ e. absurd (other e)), subst (λ l. All (λ y. y .article ≡ a → y .time ≤ times t l) xs) (sym on-is) (latest-from t a xs)))
+    ((λ e. absurd (other e)), subst (λ l. All (λ y. y .article ≡ a → y .time ≤ times t l) xs) (sym on-is) (latest-from t a xs)))
     (cases-eq (x .article) a)
 
 -- no time on an article is later than the latest on it

@@ -35,7 +35,11 @@ impl<K: Kind, H: History> Table<K, H> {
         if z >= setup.sites || q >= setup.sites {
             return Err(TableFault::NoSite);
         }
-        Ok(self.state.rows[article as usize].known[z as usize][q as usize])
+        Ok(
+            self.state
+                .rows[article as usize]
+                .known[z as usize][q as usize],
+        )
     }
 
     // Is site `peer` not known to have all of this site's own actions on the article?

@@ -20,7 +20,13 @@ impl<K: Kind, H: History> Table<K, H> {
     }
 
     // Adds a pending action, and answers the time that it will have.
-    pub fn write(&mut self, ticket: &Ticket, article: u8, operation: u8, amount: i32) -> Result<u32, TableFault>
+    pub fn write(
+        &mut self,
+        ticket: &Ticket,
+        article: u8,
+        operation: u8,
+        amount: i32,
+    ) -> Result<u32, TableFault>
         ensures does { λ r. ⌜ Wrote means (view items room (now (self .entry))) (now (ticket .entry)) article operation amount r (view items room (now (self .exit))) ⌝ }
         ensures sound { λ _. ⌜ (Sound means (view items room (now (self .entry))) → Sound means (view items room (now (self .exit)))) ⌝ }
     {
@@ -29,7 +35,11 @@ impl<K: Kind, H: History> Table<K, H> {
 
     // Commits the open transaction and spends its ticket. Answers how many actions it had, and the
     // length of its message.
-    pub fn commit(&mut self, ticket: Ticket, buffer: &mut [u8]) -> Result<(usize, usize), (TableFault, Ticket)>
+    pub fn commit(
+        &mut self,
+        ticket: Ticket,
+        buffer: &mut [u8],
+    ) -> Result<(usize, usize), (TableFault, Ticket)>
         ensures does { λ r. ⌜ Committed means (view items room (now (self .entry))) ticket (now (buffer .entry)) r (view items room (now (self .exit))) (now (buffer .exit)) ⌝ }
         ensures sound { λ _. ⌜ (Sound means (view items room (now (self .entry))) → Sound means (view items room (now (self .exit)))) ⌝ }
     {

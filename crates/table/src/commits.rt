@@ -4,11 +4,15 @@ ghost use lib.ListN.{length};
 ghost use Rattle.message.specs.Buffer.{overwritten};
 ghost use Rattle.table.specs.Transactions.{Committed, committed, fitting, transactionBytes};
 ghost use Rattle.table.specs.View.{view};
-use crate::faults::{HistoryInTable, TableFault};
-use crate::posts::{append, raise_rows, work_rows};
+use crate::faults::HistoryInTable;
+use crate::faults::TableFault;
+use crate::posts::append;
+use crate::posts::raise_rows;
+use crate::posts::work_rows;
 use crate::tables::Table;
 use crate::tickets::Ticket;
-use history::{History, HistoryFault};
+use history::History;
+use history::HistoryFault;
 use kind::Kind;
 
 impl<K: Kind, H: History> Table<K, H> {
@@ -44,7 +48,11 @@ impl<K: Kind, H: History> Table<K, H> {
         self.state.is_open = false;
     }
 
-    pub(crate) fn finish(&mut self, ticket: Ticket, buffer: &mut [u8]) -> Result<(usize, usize), (TableFault, Ticket)>
+    pub(crate) fn finish(
+        &mut self,
+        ticket: Ticket,
+        buffer: &mut [u8],
+    ) -> Result<(usize, usize), (TableFault, Ticket)>
         ensures { λ r. ⌜ Committed means (view items room (now (self .entry))) ticket (now (buffer .entry)) r (view items room (now (self .exit))) (now (buffer .exit)) ⌝ }
     {
         if !self.holds(&ticket) {

@@ -3,7 +3,8 @@ ghost use Prim.Native.Nat.{_+_, _≤_};
 ghost use lib.ListN.{length};
 ghost use Rattle.message.specs.Buffer.{overwritten};
 ghost use Rattle.message.specs.Format.{recordBytes};
-use message::{put, Record};
+use message::Record;
+use message::put;
 
 // Puts a record that is known to fit, and answers the place after it.
 pub(crate) fn emit(buffer: &mut [u8], at: usize, record: Record) -> usize

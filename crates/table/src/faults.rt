@@ -2,8 +2,12 @@ ghost use mathlib.Core.Path.{_≡_};
 ghost use Rattle.action.specs.Lawful.{byTable};
 ghost use Rattle.table.specs.Faults.{shown};
 ghost use Rattle.table.specs.declared.faults.TableFault.the-variants.{InHistory as Carried};
-use action::{Layer, Refusal};
-use history::{HistoryFault, HistoryFaultDebug, HistoryFaultEq, HistoryFaultPartialEq};
+use action::Layer;
+use action::Refusal;
+use history::HistoryFault;
+use history::HistoryFaultDebug;
+use history::HistoryFaultEq;
+use history::HistoryFaultPartialEq;
 
 // Why a table refused. A fault of its history is carried whole.
 #[derive(Clone, Copy, Debug, PartialEq, Eq)]

@@ -15,6 +15,7 @@ mod tables;
 mod tickets;
 mod transactions;
 
-pub use faults::{HistoryInTable, TableFault};
+pub use faults::HistoryInTable;
+pub use faults::TableFault;
 pub use tables::Table;
 pub use tickets::Ticket;

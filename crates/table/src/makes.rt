@@ -1,10 +1,12 @@
 ghost use mathlib.Core.Path.{_≡_};
 ghost use mathlib.Core.List.{[]};
+ghost use Rattle.table.specs.Sound.{Sound};
 ghost use Rattle.table.specs.View.{fresh, view};
 use crate::rows::Row;
 use crate::state::State;
 use crate::tables::Table;
-use action::{Action, Setup};
+use action::Action;
+use action::Setup;
 use history::History;
 use kind::Kind;
 use std::marker::PhantomData;
@@ -24,7 +26,8 @@ fn empty<H: History>(history: &mut H)
 impl<K: Kind, H: History> Table<K, H> {
     // A new table over a history, which is emptied first. It is never refused.
     pub fn new(setup: Setup, mut history: H) -> Table<K, H>
-        ensures { λ r. ⌜ view items room r ≡ fresh means setup (room history) ⌝ }
+        ensures does { λ r. ⌜ view items room r ≡ fresh means setup (room history) ⌝ }
+        ensures sound { λ r. ⌜ Sound means (view items room r) ⌝ }
     {
         empty(&mut history);
         let start = K::start();

@@ -13,12 +13,16 @@ ghost use Rattle.message.specs.Format.{intervalBytes};
 ghost use Rattle.table.specs.Offers.{Offered, isOffered, offerInterval};
 ghost use Rattle.table.specs.View.{view};
 use crate::emits::emit;
-use crate::faults::{HistoryInTable, TableFault};
+use crate::faults::HistoryInTable;
+use crate::faults::TableFault;
 use crate::tables::Table;
 use action::Action;
 use history::History;
 use kind::Kind;
-use message::{Header, Interval, Record, SectionHead};
+use message::Header;
+use message::Interval;
+use message::Record;
+use message::SectionHead;
 
 impl<K: Kind, H: History> Table<K, H> {
     // Does an offer to the peer carry this action?
@@ -31,7 +35,8 @@ impl<K: Kind, H: History> Table<K, H> {
         }
         let known = &self.state.rows[article as usize].known;
         let q = action.coordinator as usize;
-        known[peer as usize][q] < action.time && action.time <= known[self.state.setup.own as usize][q]
+        known[peer as usize][q] < action.time
+            && action.time <= known[self.state.setup.own as usize][q]
     }
 
     // How many actions an offer to the peer carries.
@@ -71,7 +76,13 @@ impl<K: Kind, H: History> Table<K, H> {
     }
 
     // Puts the actions that the offer carries.
-    fn put_offered(&self, peer: u8, article: u8, buffer: &mut [u8], start: usize) -> Result<usize, TableFault>
+    fn put_offered(
+        &self,
+        peer: u8,
+        article: u8,
+        buffer: &mut [u8],
+        start: usize,
+    ) -> Result<usize, TableFault>
         requires { ⌜ peer < 8 ⌝ ∗ ⌜ article < 64 ⌝ ∗ ⌜ start + 16 * length (kept-by (isOffered (view items room (now self)) peer article) (items (now self .history))) ≤ length (now buffer) ⌝ }
         ensures end { λ r. ⌜ r ≡ Granted (start + 16 * length (kept-by (isOffered (view items room (now (self .entry))) peer article) (items (now (self .entry) .history)))) ⌝ }
         ensures bytes { λ r. ⌜ now (buffer .exit) ≡ overwritten (now (buffer .entry)) start (joined actionBytes (kept-by (isOffered (view items room (now (self .entry))) peer article) (items (now (self .entry) .history)))) ⌝ }

@@ -14,7 +14,10 @@ use crate::tables::Table;
 use action::Action;
 use history::History;
 use kind::Kind;
-use message::{Header, Interval, Record, SectionHead};
+use message::Header;
+use message::Interval;
+use message::Record;
+use message::SectionHead;
 
 // The open transaction's message: a section for each article written.
 impl<K: Kind, H: History> Table<K, H> {
@@ -60,7 +63,9 @@ impl<K: Kind, H: History> Table<K, H> {
     {
         let (count, last) = self.written(article);
         let own = self.state.setup.own;
-        let before = self.state.rows[article as usize].known[own as usize][own as usize];
+        let before = self.state
+            .rows[article as usize]
+            .known[own as usize][own as usize];
         let head = SectionHead {
             article,
             intervals: 1,

@@ -2,7 +2,8 @@ ghost use mathlib.Core.Path.{_≡_};
 ghost use Prim.Native.Nat.{_+_, _≤_};
 ghost use lib.ListN.{length};
 use crate::rows::Row;
-use action::{Action, Setup};
+use action::Action;
+use action::Setup;
 
 // What a table keeps besides its history.
 #[derive(Drop)]

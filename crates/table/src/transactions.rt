@@ -4,7 +4,9 @@ ghost use Rattle.table.specs.View.{view};
 use crate::faults::TableFault;
 use crate::tables::Table;
 use crate::tickets::Ticket;
-use action::{Action, LATEST_TIME, MOST_WRITES};
+use action::Action;
+use action::LATEST_TIME;
+use action::MOST_WRITES;
 use history::History;
 use kind::Kind;
 
@@ -35,7 +37,13 @@ impl<K: Kind, H: History> Table<K, H> {
             && ticket.clock == self.state.clock
     }
 
-    pub(crate) fn add(&mut self, ticket: &Ticket, article: u8, operation: u8, amount: i32) -> Result<u32, TableFault>
+    pub(crate) fn add(
+        &mut self,
+        ticket: &Ticket,
+        article: u8,
+        operation: u8,
+        amount: i32,
+    ) -> Result<u32, TableFault>
         ensures { λ r. ⌜ Wrote means (view items room (now (self .entry))) (now (ticket .entry)) article operation amount r (view items room (now (self .exit))) ⌝ }
     {
         if !self.holds(ticket) {

@@ -23,8 +23,7 @@ loop-action-again g c =
     let xs = items (c .loop-action .history) in
     let new = c .args .actions .now in
     let i = c .loop-action .action-index in
-    let a = getD new i noAction in
-    (
+    let a = getD new i noAction in (
       c .in-Ok .ensures tt .list .1 ∙ at-the-end xs (c .count-end .result) a (c .count-end .ensures) ∙ ap (λ l. l ++ (a ∷ [])) (c .loop-action .inv .0) ∙ append-assoc (items (c .args .history .now)) (take i new) (a ∷ []) ∙ ap (λ l. items (c .args .history .now) ++ l) (sym (take-more new i noAction (omega arith))),
       c .insert .ensures .fixed ∙ c .loop-action .inv .1,
     )

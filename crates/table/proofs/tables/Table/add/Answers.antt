@@ -31,8 +31,7 @@ returns g c =
     let v = view {K = g .K .Denot} (g .H·History .items) (g .H·History .room) (c .args .self .now) in
     let len : length (take (s .writes) (s .pending)) ≡ s .writes = search (needs, length-take-le) in
     let time : s .clock + s .writes + 1 ≡ nextTime v = omega arith in
-    let action : Action = newAction v (c .args .article) (c .args .operation) (c .args .amount) in
-    (
+    let action : Action = newAction v (c .args .article) (c .args .operation) (c .args .amount) in (
       grind (arith, tells),
       time,
       ap (λ p. withTransaction (s .«is_open») p v) (take-more-set (s .pending) (s .writes) _ (omega arith) ∙ ap (λ a. take (s .writes) (s .pending) ++ (a ∷ [])) (λ i. record {

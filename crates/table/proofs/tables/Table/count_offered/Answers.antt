@@ -24,8 +24,8 @@ loop-i-again g c =
     let read : action ≡ getD xs i action = c .in-Continue-action .ensures tt .1 in
     let step : (b : Bool) → b ≡ p action → length (kept-by p (take (i + 1) xs)) ≡ length (kept-by p (take i xs)) + cond b 1 0 = λ b e. length-kept-by-more p xs i action within ∙ ap (λ t. length (kept-by p (take i xs)) + cond t 1 0) (ap p (sym read) ∙ sym e) in
     elim (c .if-is-offered .came) [
-      then-is-offered w ↦ (omega (arith, w .carried-is), omega (arith, w .carried-is, c .loop-i .inv .1, step true (w .if-is-offered .ensures tt)))
-    | else-is-offered w ↦ (omega (arith, w .carried-is), omega (arith, w .carried-is, c .loop-i .inv .1, step false (w .if-is-offered .ensures tt)))
+      | then-is-offered w ↦ (omega (arith, w .carried-is), omega (arith, w .carried-is, c .loop-i .inv .1, step true (w .if-is-offered .ensures tt)))
+      | else-is-offered w ↦ (omega (arith, w .carried-is), omega (arith, w .carried-is, c .loop-i .inv .1, step false (w .if-is-offered .ensures tt)))
     ]
 
 pub returns : need.returns

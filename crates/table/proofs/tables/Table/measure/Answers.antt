@@ -22,22 +22,20 @@ loop-article-again g c =
     let counted : count ≡ length (on a (v .pending)) = c .written-count .ensures .count in
     let few = c .written-count .ensures .few in
     elim (c .if-count-gt0 .came) [
-      then-count-gt0 w ↦
-        let is : isWritten v a ≡ true = lt-ltb 0 (length (on a (v .pending))) (omega (arith, w .if-count-gt0 .taken)) in
-        (
-          omega (arith, w .sections-is),
-          omega (arith, w .length-is),
-          omega (arith, w .sections-is, ap length (below-more v a is), length-push (below v a) a),
-          omega (arith, w .length-is, ap length (wrote-more v a is), length-append (wrote v a) (sectionFormat (transactionSection v a)), length-transaction-section v a),
-        )
-    | else-count-gt0 w ↦
-        let is : isWritten v a ≡ false = le-ltb 0 (length (on a (v .pending))) (omega (arith, w .if-count-gt0 .left)) in
-        (
-          omega (arith, w .sections-is),
-          omega (arith, w .length-is),
-          omega (arith, w .sections-is, ap length (below-same v a is)),
-          omega (arith, w .length-is, ap length (wrote-same v a is)),
-        )
+      | then-count-gt0 w ↦
+          let is : isWritten v a ≡ true = lt-ltb 0 (length (on a (v .pending))) (omega (arith, w .if-count-gt0 .taken)) in (
+            omega (arith, w .sections-is),
+            omega (arith, w .length-is),
+            omega (arith, w .sections-is, ap length (below-more v a is), length-push (below v a) a),
+            omega (arith, w .length-is, ap length (wrote-more v a is), length-append (wrote v a) (sectionFormat (transactionSection v a)), length-transaction-section v a),
+          )
+      | else-count-gt0 w ↦
+          let is : isWritten v a ≡ false = le-ltb 0 (length (on a (v .pending))) (omega (arith, w .if-count-gt0 .left)) in (
+            omega (arith, w .sections-is),
+            omega (arith, w .length-is),
+            omega (arith, w .sections-is, ap length (below-same v a is)),
+            omega (arith, w .length-is, ap length (wrote-same v a is)),
+          )
     ]
 
 pub returns : need.returns

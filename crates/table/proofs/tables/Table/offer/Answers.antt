@@ -53,8 +53,7 @@ returns g c =
     let two = written-then b _ _ H S 0 (c .emit-at .result) (omega arith) (omega arith) first second in
     let three = written-then b _ _ (H ++ S) I 0 (c .emit-at-2 .result) (omega arith) (omega arith) two (c .put-intervals-at .ensures .bytes) in
     let four = written-then b _ _ ((H ++ S) ++ I) A 0 (c .put-intervals-at .result) (omega (arith, length-append (H ++ S) I)) (omega arith) three (c .put-offered .ensures .bytes) in
-    subst (λ r. Offered kind v p a b r (c .put-offered .last .buffer)) (sym (c .put-offered .ensures .end))
-    (
+    subst (λ r. Offered kind v p a b r (c .put-offered .last .buffer)) (sym (c .put-offered .ensures .end)) (
       offer-granted kind v p a b (omega arith) (omega arith) (omega arith),
       omega arith,
       four ∙ ap (overwritten b 0) (sym (offer-is kind v p a)),

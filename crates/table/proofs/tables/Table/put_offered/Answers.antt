@@ -40,15 +40,15 @@ loop-i-again g c =
     let within : i < length xs = omega arith in
     let read : action ≡ getD xs i action = c .in-Continue-action .ensures tt .1 in
     elim (c .if-is-offered .came) [
-      then-is-offered w ↦
-        sofar-more (c .args .buffer .now) (c .args .start) (kept-by p (take i xs)) (kept-by p (take (i + 1) xs)) action (c .loop-i .at) (c .if-is-offered .at) (c .loop-i .buffer) (c .if-is-offered .buffer)
-        (kept-yes p xs i within action read (w .if-is-offered .ensures tt))
-        (omega (arith, few-kept p xs i, c .loop-i .inv .0))
-        (c .loop-i .inv)
-        (w .at-is ∙ w .emit-at .ensures .end)
-        (w .buffer-is ∙ w .emit-at .ensures .bytes)
-    | else-is-offered w ↦
-        subst (λ l. Sofar (c .args .buffer .now) (c .args .start) l (c .if-is-offered .at) (c .if-is-offered .buffer)) (sym (kept-no p xs i within action read (w .if-is-offered .ensures tt))) (w .at-is ∙ c .loop-i .inv .0, w .buffer-is ∙ c .loop-i .inv .1)
+      | then-is-offered w ↦
+          sofar-more (c .args .buffer .now) (c .args .start) (kept-by p (take i xs)) (kept-by p (take (i + 1) xs)) action (c .loop-i .at) (c .if-is-offered .at) (c .loop-i .buffer) (c .if-is-offered .buffer)
+          (kept-yes p xs i within action read (w .if-is-offered .ensures tt))
+          (omega (arith, few-kept p xs i, c .loop-i .inv .0))
+          (c .loop-i .inv)
+          (w .at-is ∙ w .emit-at .ensures .end)
+          (w .buffer-is ∙ w .emit-at .ensures .bytes)
+      | else-is-offered w ↦
+          subst (λ l. Sofar (c .args .buffer .now) (c .args .start) l (c .if-is-offered .at) (c .if-is-offered .buffer)) (sym (kept-no p xs i within action read (w .if-is-offered .ensures tt))) (w .at-is ∙ c .loop-i .inv .0, w .buffer-is ∙ c .loop-i .inv .1)
     ]
 
 pub returns : need.returns

@@ -35,17 +35,16 @@ loop-article-again g c =
     let counted = c .written-count .ensures .count in
     let new = sectionFormat (transactionSection v a) in
     elim (c .if-count-gt0 .came) [
-      then-count-gt0 w ↦
-        let is : isWritten v a ≡ true = lt-ltb 0 (length (on a (v .pending))) (omega (arith, w .if-count-gt0 .taken)) in
-        let more = wrote-more v a is in
-        (
-          omega (arith, w .at-is, w .put-section-at .ensures .end, ap length more, length-append (wrote v a) new),
-          w .buffer-is ∙ written-then b (c .loop-article .buffer) (w .put-section-at .last .buffer) (wrote v a) new start (c .loop-article .at) (c .loop-article .inv .0) (omega (arith, wrote-le v a (v .setup .articles) (omega arith))) (c .loop-article .inv .1) (w .put-section-at .ensures .bytes) ∙ ap (overwritten b start) (sym more),
-        )
-    | else-count-gt0 w ↦
-        let is : isWritten v a ≡ false = le-ltb 0 (length (on a (v .pending))) (omega (arith, w .if-count-gt0 .left)) in
-        let same = wrote-same v a is in
-        (omega (arith, w .at-is, ap length same), w .buffer-is ∙ c .loop-article .inv .1 ∙ ap (overwritten b start) (sym same))
+      | then-count-gt0 w ↦
+          let is : isWritten v a ≡ true = lt-ltb 0 (length (on a (v .pending))) (omega (arith, w .if-count-gt0 .taken)) in
+          let more = wrote-more v a is in (
+            omega (arith, w .at-is, w .put-section-at .ensures .end, ap length more, length-append (wrote v a) new),
+            w .buffer-is ∙ written-then b (c .loop-article .buffer) (w .put-section-at .last .buffer) (wrote v a) new start (c .loop-article .at) (c .loop-article .inv .0) (omega (arith, wrote-le v a (v .setup .articles) (omega arith))) (c .loop-article .inv .1) (w .put-section-at .ensures .bytes) ∙ ap (overwritten b start) (sym more),
+          )
+      | else-count-gt0 w ↦
+          let is : isWritten v a ≡ false = le-ltb 0 (length (on a (v .pending))) (omega (arith, w .if-count-gt0 .left)) in
+          let same = wrote-same v a is in
+          (omega (arith, w .at-is, ap length same), w .buffer-is ∙ c .loop-article .inv .1 ∙ ap (overwritten b start) (sym same))
     ]
 
 pub returns : need.returns

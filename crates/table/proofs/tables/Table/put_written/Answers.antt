@@ -33,13 +33,13 @@ loop-i-again g c =
     let within : i < length xs = omega arith in
     let part : take i (take (s .writes) xs) ≡ take i xs = take-take i (s .writes) xs (omega arith) in
     elim (c .if-action-article .came) [
-      then-action-article w ↦
-        sofar-more (c .args .buffer .now) (c .args .start) (on a (take i xs)) (on a (take (i + 1) xs)) (getD xs i noAction) (c .loop-i .at) (c .if-action-article .at) (c .loop-i .buffer) (c .if-action-article .buffer)
-        (on-more xs i within a (w .if-action-article .taken))
-        (omega (arith, few-kept (λ x. eqb (x .article) a) (take (s .writes) xs) i, ap (λ l. length (on a l)) part, c .loop-i .inv .0))
-        (c .loop-i .inv)
-        (w .at-is ∙ w .emit-at .ensures .end)
-        (w .buffer-is ∙ w .emit-at .ensures .bytes)
-    | else-action-article w ↦
-        subst (λ l. Sofar (c .args .buffer .now) (c .args .start) l (c .if-action-article .at) (c .if-action-article .buffer)) (sym (on-same xs i within a (w .if-action-article .left))) (w .at-is ∙ c .loop-i .inv .0, w .buffer-is ∙ c .loop-i .inv .1)
+      | then-action-article w ↦
+          sofar-more (c .args .buffer .now) (c .args .start) (on a (take i xs)) (on a (take (i + 1) xs)) (getD xs i noAction) (c .loop-i .at) (c .if-action-article .at) (c .loop-i .buffer) (c .if-action-article .buffer)
+          (on-more xs i within a (w .if-action-article .taken))
+          (omega (arith, few-kept (λ x. eqb (x .article) a) (take (s .writes) xs) i, ap (λ l. length (on a l)) part, c .loop-i .inv .0))
+          (c .loop-i .inv)
+          (w .at-is ∙ w .emit-at .ensures .end)
+          (w .buffer-is ∙ w .emit-at .ensures .bytes)
+      | else-action-article w ↦
+          subst (λ l. Sofar (c .args .buffer .now) (c .args .start) l (c .if-action-article .at) (c .if-action-article .buffer)) (sym (on-same xs i within a (w .if-action-article .left))) (w .at-is ∙ c .loop-i .inv .0, w .buffer-is ∙ c .loop-i .inv .1)
     ]

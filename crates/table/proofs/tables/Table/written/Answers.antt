@@ -20,14 +20,13 @@ loop-i-again g c =
     let inv = c .loop-i .inv in
     let within : i < length xs = omega arith in
     elim (c .if-action-article .came) [
-      then-action-article w ↦
-        let more = on-more xs i within a (w .if-action-article .taken) in
-        (
-          omega (arith, w .count-is),
-          omega (arith, w .count-is, inv .1, ap length more, length-push (on a (take i xs)) x),
-          w .last-is ∙ w .max-last .ensures ∙ ap (λ t. max t (x .time)) (inv .2) ∙ sym (ap (folded (λ t (y : Action). max t (y .time)) 0) more ∙ folded-push (λ t (y : Action). max t (y .time)) 0 (on a (take i xs)) x),
-        )
-    | else-action-article w ↦
-        let same = on-same xs i within a (w .if-action-article .left) in
-        (omega (arith, w .count-is), w .count-is ∙ inv .1 ∙ ap length (sym same), w .last-is ∙ inv .2 ∙ ap (folded (λ t (y : Action). max t (y .time)) 0) (sym same))
+      | then-action-article w ↦
+          let more = on-more xs i within a (w .if-action-article .taken) in (
+            omega (arith, w .count-is),
+            omega (arith, w .count-is, inv .1, ap length more, length-push (on a (take i xs)) x),
+            w .last-is ∙ w .max-last .ensures ∙ ap (λ t. max t (x .time)) (inv .2) ∙ sym (ap (folded (λ t (y : Action). max t (y .time)) 0) more ∙ folded-push (λ t (y : Action). max t (y .time)) 0 (on a (take i xs)) x),
+          )
+      | else-action-article w ↦
+          let same = on-same xs i within a (w .if-action-article .left) in
+          (omega (arith, w .count-is), w .count-is ∙ inv .1 ∙ ap length (sym same), w .last-is ∙ inv .2 ∙ ap (folded (λ t (y : Action). max t (y .time)) 0) (sym same))
     ]
