@@ -1,0 +1,3 @@
+mod Forms
+mod Held
+mod Numbers

@@ -1,0 +1,16 @@
+// The line language of the tally: three sites of one group, driven by lines of text.
+mod acts;
+mod answers;
+mod commands;
+mod desks;
+mod parses;
+mod prints;
+mod sheets;
+mod slots;
+
+pub use answers::{Answer, AnswerDebug, AnswerEq, AnswerPartialEq};
+pub use commands::{Command, CommandDebug, CommandEq, CommandPartialEq};
+pub use desks::Desk;
+pub use parses::parse;
+pub use sheets::SheetLine;
+pub use slots::Slot;
