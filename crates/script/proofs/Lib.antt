@@ -1,3 +1,4 @@
 mod Forms
 mod Held
 mod Numbers
+mod Turns

@@ -1,4 +1,5 @@
 pub mod Acts
+pub mod Desk
 pub mod Lines
 pub mod Sheets
 pub mod Slots

@@ -82,6 +82,13 @@ commandOf letter body =
 abbrev pub command : List ℕ → Option Command
 command line = commandOf (place line 0) (drop 1 line)
 
+-- a command's slot is one of the ten
+abbrev pub Placed : Command → Type 0
+Placed (Move site article amount slot) = slot < 10
+Placed (Offer site peer article slot) = slot < 10
+Placed (Figure site article) = Unit {0}
+Placed (OpenItem site peer article) = Unit {0}
+
 -- what reading one field answers
 
 abbrev pub Digit : ℕ → Option ℕ → Type 0

@@ -5,6 +5,7 @@ mod commands;
 mod desks;
 mod parses;
 mod prints;
+mod runs;
 mod sheets;
 mod slots;
 

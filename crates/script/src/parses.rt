@@ -1,6 +1,7 @@
 ghost use mathlib.Core.Path.{_≡_};
 ghost use Prim.Native.Nat.{_≤_};
-ghost use Rattle.script.specs.Lines.{Digit, Hundreds, Sign, Site, command, figureOf, moveOf, offerOf, openItemOf};
+ghost use Rattle.std.specs.Slices.{found};
+ghost use Rattle.script.specs.Lines.{Digit, Hundreds, Placed, Sign, Site, command, figureOf, moveOf, offerOf, openItemOf};
 use crate::commands::Command;
 
 // The value of a decimal digit.
@@ -46,7 +47,8 @@ fn signed(sign: u8, number: u32) -> Option<i32>
 }
 
 fn parse_move(body: &[u8]) -> Option<Command>
-    ensures { λ r. ⌜ r ≡ moveOf (now (body .entry)) ⌝ }
+    ensures form { λ r. ⌜ r ≡ moveOf (now (body .entry)) ⌝ }
+    ensures placed { λ r. ⌜ found r Placed ⌝ }
 {
     let [site, article, sign, d5, d4, d3, d2, d1, d0, slot] = body else {
         return None;
@@ -64,7 +66,8 @@ fn parse_move(body: &[u8]) -> Option<Command>
 }
 
 fn parse_offer(body: &[u8]) -> Option<Command>
-    ensures { λ r. ⌜ r ≡ offerOf (now (body .entry)) ⌝ }
+    ensures form { λ r. ⌜ r ≡ offerOf (now (body .entry)) ⌝ }
+    ensures placed { λ r. ⌜ found r Placed ⌝ }
 {
     let [site, peer, article, slot] = body else {
         return None;
@@ -78,7 +81,8 @@ fn parse_offer(body: &[u8]) -> Option<Command>
 }
 
 fn parse_figure(body: &[u8]) -> Option<Command>
-    ensures { λ r. ⌜ r ≡ figureOf (now (body .entry)) ⌝ }
+    ensures form { λ r. ⌜ r ≡ figureOf (now (body .entry)) ⌝ }
+    ensures placed { λ r. ⌜ found r Placed ⌝ }
 {
     let [site, article] = body else {
         return None;
@@ -90,7 +94,8 @@ fn parse_figure(body: &[u8]) -> Option<Command>
 }
 
 fn parse_open_item(body: &[u8]) -> Option<Command>
-    ensures { λ r. ⌜ r ≡ openItemOf (now (body .entry)) ⌝ }
+    ensures form { λ r. ⌜ r ≡ openItemOf (now (body .entry)) ⌝ }
+    ensures placed { λ r. ⌜ found r Placed ⌝ }
 {
     let [site, peer, article] = body else {
         return None;
@@ -104,7 +109,8 @@ fn parse_open_item(body: &[u8]) -> Option<Command>
 
 // The command that a line writes, or `None` where it has no known form.
 pub fn parse(line: &[u8]) -> Option<Command>
-    ensures { λ r. ⌜ r ≡ command (now (line .entry)) ⌝ }
+    ensures form { λ r. ⌜ r ≡ command (now (line .entry)) ⌝ }
+    ensures placed { λ r. ⌜ found r Placed ⌝ }
 {
     let [letter, body @ ..] = line else {
         return None;
