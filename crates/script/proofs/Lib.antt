@@ -1,4 +1,5 @@
 mod Forms
 mod Held
+mod Lined
 mod Numbers
 mod Turns
