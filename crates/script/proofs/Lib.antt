@@ -1,0 +1,5 @@
+mod Forms
+mod Held
+mod Lined
+mod Numbers
+mod Turns
