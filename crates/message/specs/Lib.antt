@@ -1,2 +1,4 @@
 pub mod Buffer
+pub mod Decoding
 pub mod Format
+pub mod Progress

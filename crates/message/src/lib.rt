@@ -1,7 +1,13 @@
-// Messages between the sites of a group: their four records, and the writing of them.
+// Messages between the sites of a group: their four records, and the writing and reading of them.
+mod decodes;
+mod reading;
 mod records;
+mod rules;
 mod writer;
 
+pub use reading::Due;
+pub use reading::Progress;
+pub use reading::Span;
 pub use records::Header;
 pub use records::Interval;
 pub use records::Record;
