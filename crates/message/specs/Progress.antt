@@ -17,6 +17,10 @@ use Rattle.message.specs.declared.reading.Span.{Span}
 use Rattle.message.specs.declared.records.Header.{Header}
 use Rattle.message.specs.declared.records.Interval.{Interval}
 use Rattle.message.specs.declared.records.SectionHead.{SectionHead}
+use Rattle.message.specs.declared.records.Record.{Record}
+use Rattle.message.specs.declared.records.Record.the-variants as record-kinds
+use Rattle.message.specs.declared.reading.Verdict.{Verdict}
+use Rattle.message.specs.declared.reading.Verdict.the-variants.{Passed, Foreign, Broken}
 
 abbrev pub noSpan : Span
 noSpan = record { from = 0; to = 0 }
@@ -116,3 +120,12 @@ afterAction p x = record {
   spans = p .spans;
   last = x;
 }
+
+-- ANY RECORD
+
+-- a record after those before it: it leads on, or names another group or kind, or breaks a rule
+abbrev pub admitted : Meaning → Setup → Progress → Record → Verdict
+admitted kind setup p (record-kinds.Header h) = cond (named kind setup h) (cond (lawfulHeader setup h) (Passed (afterHeader p h)) Broken) Foreign
+admitted kind setup p (record-kinds.Section s) = cond (lawfulSection setup p s) (Passed (afterSection p s)) Broken
+admitted kind setup p (record-kinds.Interval i) = cond (lawfulInterval setup p i) (Passed (afterInterval p i)) Broken
+admitted kind setup p (record-kinds.Action x) = cond (lawfulAction kind p x) (Passed (afterAction p x)) Broken

@@ -37,6 +37,16 @@ pub struct Progress {
     pub last: Action,
 }
 
+// What the rules say of a record, after those before it.
+#[derive(Clone, Copy)]
+pub enum Verdict {
+    Passed(Progress),
+    // A header of another group or kind.
+    Foreign,
+    // A field that breaks a rule.
+    Broken,
+}
+
 impl Progress {
     // Nothing read yet.
     pub fn start() -> Progress

@@ -1,8 +1,9 @@
 ghost use mathlib.Core.Path.{_≡_};
 ghost use lib.ListN.{getD};
-ghost use Rattle.message.specs.Progress.{dueAfter, lawfulAction, lawfulHeader, lawfulInterval, lawfulSection, named, noSpan};
-use crate::reading::{Due, Progress, Span};
-use crate::records::{Header, Interval, SectionHead};
+ghost use Rattle.message.specs.declared.records.Record.the-variants.{Header as HeaderRecord, Section as SectionRecord, Interval as IntervalRecord, Action as ActionRecord};
+ghost use Rattle.message.specs.Progress.{admitted, dueAfter, lawfulAction, lawfulHeader, lawfulInterval, lawfulSection, named, noSpan};
+use crate::reading::{Due, Progress, Span, Verdict};
+use crate::records::{Header, Interval, Record, SectionHead};
 use action::{Action, LATEST_TIME, Setup};
 use kind::Kind;
 
@@ -73,4 +74,77 @@ fn is_lawful_action<K: Kind>(progress: &Progress, action: &Action) -> bool
         && 1 <= action.transaction
         && action.transaction <= action.time
         && K::is_known(action.operation, action.amount)
+}
+
+fn admit_header<K: Kind>(setup: &Setup, progress: &Progress, header: Header) -> Verdict
+    ensures { λ r. ⌜ r ≡ admitted means (now (setup .entry)) (now (progress .entry)) (HeaderRecord header) ⌝ }
+{
+    if !is_named::<K>(setup, &header) {
+        return Verdict::Foreign;
+    }
+    if !is_lawful_header(setup, &header) {
+        return Verdict::Broken;
+    }
+    let mut after = *progress;
+    after.due = Due::Section;
+    after.sections = header.sections;
+    Verdict::Passed(after)
+}
+
+fn admit_section<K: Kind>(setup: &Setup, progress: &Progress, head: SectionHead) -> Verdict
+    ensures { λ r. ⌜ r ≡ admitted means (now (setup .entry)) (now (progress .entry)) (SectionRecord head) ⌝ }
+{
+    if !is_lawful_section(setup, progress, &head) {
+        return Verdict::Broken;
+    }
+    let mut after = Progress::start();
+    after.due = Due::Interval;
+    after.sections = progress.sections.saturating_sub(1);
+    after.intervals = head.intervals;
+    after.actions = head.actions;
+    after.article = head.article;
+    after.next_article = head.article + 1;
+    Verdict::Passed(after)
+}
+
+fn admit_interval<K: Kind>(setup: &Setup, progress: &Progress, interval: Interval) -> Verdict
+    ensures { λ r. ⌜ r ≡ admitted means (now (setup .entry)) (now (progress .entry)) (IntervalRecord interval) ⌝ }
+{
+    if !is_lawful_interval(setup, progress, &interval) {
+        return Verdict::Broken;
+    }
+    let mut after = *progress;
+    after.intervals = progress.intervals.saturating_sub(1);
+    after.due = due_after(after.intervals, after.actions, after.sections);
+    after.next_site = interval.site + 1;
+    after.spans[interval.site as usize] = Span {
+        from: interval.from,
+        to: interval.to,
+    };
+    Verdict::Passed(after)
+}
+
+fn admit_action<K: Kind>(setup: &Setup, progress: &Progress, action: Action) -> Verdict
+    ensures { λ r. ⌜ r ≡ admitted means (now (setup .entry)) (now (progress .entry)) (ActionRecord action) ⌝ }
+{
+    if !is_lawful_action::<K>(progress, &action) {
+        return Verdict::Broken;
+    }
+    let mut after = *progress;
+    after.actions = progress.actions.saturating_sub(1);
+    after.due = due_after(0, after.actions, after.sections);
+    after.last = action;
+    Verdict::Passed(after)
+}
+
+// A record after those before it.
+pub(crate) fn admit<K: Kind>(setup: &Setup, progress: &Progress, record: Record) -> Verdict
+    ensures { λ r. ⌜ r ≡ admitted means (now (setup .entry)) (now (progress .entry)) «record» ⌝ }
+{
+    match record {
+        Record::Header(header) => admit_header::<K>(setup, progress, header),
+        Record::Section(head) => admit_section::<K>(setup, progress, head),
+        Record::Interval(interval) => admit_interval::<K>(setup, progress, interval),
+        Record::Action(action) => admit_action::<K>(setup, progress, action),
+    }
 }
