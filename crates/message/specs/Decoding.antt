@@ -13,6 +13,7 @@ use Rattle.message.specs.declared.records.Header.{Header}
 use Rattle.message.specs.declared.records.Interval.{Interval}
 use Rattle.message.specs.declared.records.SectionHead.{SectionHead}
 use Rattle.message.specs.declared.records.Record.the-variants as record-kinds
+use Rattle.message.specs.Format.{recordBytes}
 
 -- the bytes begin with that kind byte, and are at least so many
 abbrev pub begins : ℕ → ℕ → List ℕ → Bool
@@ -37,3 +38,10 @@ decoded due.Section bs = cond (begins 0x53 5 bs) (Whole (record-kinds.Section (s
 decoded due.Interval bs = cond (begins 0x49 10 bs) (Whole (record-kinds.Interval (intervalIn bs))) Cut
 decoded due.Action bs = cond (begins 0x41 16 bs) (Whole (record-kinds.Action (actionOf bs))) Cut
 decoded due.End bs = cond (eqb (length bs) 0) Finished Trailing
+
+-- how many bytes the record takes, where there is one
+abbrev pub sizeOf : Decoded → ℕ
+sizeOf (Whole r) = length (recordBytes r)
+sizeOf Cut = 0
+sizeOf Finished = 0
+sizeOf Trailing = 0

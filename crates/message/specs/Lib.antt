@@ -1,4 +1,6 @@
 pub mod Buffer
 pub mod Decoding
+pub mod Faults
 pub mod Format
 pub mod Progress
+pub mod Reading

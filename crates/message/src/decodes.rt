@@ -1,5 +1,7 @@
 ghost use mathlib.Core.Path.{_≡_};
-ghost use Rattle.message.specs.Decoding.{decoded};
+ghost use Prim.Native.Nat.{_≤_};
+ghost use lib.ListN.{length};
+ghost use Rattle.message.specs.Decoding.{decoded, sizeOf};
 use crate::reading::Due;
 use crate::records::{Header, Interval, Record, SectionHead};
 use action::Action;
@@ -16,7 +18,8 @@ pub enum Decoded {
 }
 
 pub fn decode(due: Due, bytes: &[u8]) -> Decoded
-    ensures { λ r. ⌜ r ≡ decoded due (now (bytes .entry)) ⌝ }
+    ensures value { λ r. ⌜ r ≡ decoded due (now (bytes .entry)) ⌝ }
+    ensures fits { λ r. ⌜ sizeOf r ≤ length (now (bytes .entry)) ⌝ }
 {
     match (due, bytes) {
         (Due::Header, [b'H', g1, g0, kind, sender, sections, ..]) => Decoded::Whole(Record::Header(Header {

@@ -1,5 +1,7 @@
 ghost use mathlib.Core.Path.{_≡_};
 ghost use Rattle.message.specs.Progress.{start};
+use crate::faults::ReaderFault;
+use crate::records::Record;
 use action::Action;
 
 // Which record the reader expects next.
@@ -45,6 +47,21 @@ pub enum Verdict {
     Foreign,
     // A field that breaks a rule.
     Broken,
+}
+
+// What a look at the next bytes shows.
+#[derive(Clone, Copy)]
+pub enum Look {
+    Ended,
+    Read(Record, Progress),
+    Refused(ReaderFault),
+}
+
+// A record that was read, and where in the message it stands.
+#[derive(Clone, Copy)]
+pub struct Found {
+    pub offset: usize,
+    pub record: Record,
 }
 
 impl Progress {

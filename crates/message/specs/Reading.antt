@@ -1,0 +1,71 @@
+-- How bytes are read, record by record. Assumes nothing.
+use mathlib.Core.Path.{_≡_}
+use mathlib.Core.Bool.{Bool, true, false, cond}
+use mathlib.Core.List.{List, [], _∷_, _++_}
+use Prim.Native.Nat.{ℕ, suc, _+_}
+use lib.ListN.{drop, length}
+use Rattle.std.specs.Iters.{folded}
+use Rattle.std.specs.declared.option.Option.{Option}
+use Rattle.std.specs.declared.option.Option.the-variants.{Some, None}
+use Rattle.std.specs.declared.result.Result.{Result}
+use Rattle.std.specs.declared.result.Result.the-variants.{Ok, Err}
+use Rattle.action.specs.declared.refusals.Refusal.{Refusal}
+use Rattle.action.specs.declared.setups.Setup.{Setup}
+use Rattle.action.specs.Lawful.{byReader}
+use Rattle.kind.specs.Meaning.{Meaning}
+use Rattle.message.specs.declared.decodes.Decoded.{Decoded}
+use Rattle.message.specs.declared.decodes.Decoded.the-variants.{Whole, Cut, Finished, Trailing}
+use Rattle.message.specs.declared.faults.ReaderFault.{ReaderFault}
+use Rattle.message.specs.declared.reading.Due.{Due}
+use Rattle.message.specs.declared.reading.Due.the-variants as due
+use Rattle.message.specs.declared.reading.Found.{Found}
+use Rattle.message.specs.declared.reading.Look.{Look}
+use Rattle.message.specs.declared.reading.Look.the-variants.{Ended, Read, Refused}
+use Rattle.message.specs.declared.reading.Progress.{Progress}
+use Rattle.message.specs.declared.reading.Verdict.{Verdict}
+use Rattle.message.specs.declared.reading.Verdict.the-variants.{Passed, Foreign, Broken}
+use Rattle.message.specs.declared.records.Record.{Record}
+use Rattle.message.specs.declared.records.Record.the-variants as record-kinds
+use Rattle.message.specs.Decoding.{decoded}
+use Rattle.message.specs.Faults.{shown}
+use Rattle.message.specs.Format.{recordBytes}
+use Rattle.message.specs.Progress.{admitted, start}
+
+-- one step from place at, with the progress so far: the end, a record that leads on, or a refusal
+pub data Step : Type 0 where
+  ended : Step
+  found : Record → Progress → Step
+  refused : Refusal → Step
+
+abbrev pub judged : ℕ → Record → Verdict → Step
+judged at r (Passed p) = found r p
+judged at r Foreign = refused (byReader 10 0)
+judged at r Broken = refused (byReader 11 at)
+
+abbrev pub stepped : Meaning → Setup → Progress → ℕ → Decoded → Step
+stepped kind setup p at (Whole r) = judged at r (admitted kind setup p r)
+stepped kind setup p at Cut = refused (byReader 9 at)
+stepped kind setup p at Finished = ended
+stepped kind setup p at Trailing = refused (byReader 12 at)
+
+abbrev pub step : Meaning → Setup → Progress → ℕ → List ℕ → Step
+step kind setup p at rest = stepped kind setup p at (decoded (p .due) rest)
+
+-- a look at the next bytes, as the code answers it
+abbrev pub seen : Look → Step
+seen Ended = ended
+seen (Read r p) = found r p
+seen (Refused e) = refused (shown e)
+
+-- how many bytes a look passes over
+abbrev pub width : Look → ℕ
+width Ended = 0
+width (Read r p) = length (recordBytes r)
+width (Refused e) = 0
+
+-- what one call of the reader answers, and where it then stands
+abbrev pub Next : Meaning → Setup → Progress → ℕ → List ℕ → Result (Option Found) ReaderFault → Progress → ℕ → Type 0
+Next kind setup p at bytes (Ok None) q to = (step kind setup p at (drop at bytes) ≡ ended) × (q ≡ p) × (to ≡ at)
+Next kind setup p at bytes (Ok (Some f)) q to =
+    (step kind setup p at (drop at bytes) ≡ found (f .«record») q) × (f .offset ≡ at) × (to ≡ at + length (recordBytes (f .«record»)))
+Next kind setup p at bytes (Err e) q to = (step kind setup p at (drop at bytes) ≡ refused (shown e)) × (q ≡ p) × (to ≡ at)
