@@ -69,3 +69,44 @@ Next kind setup p at bytes (Ok None) q to = (step kind setup p at (drop at bytes
 Next kind setup p at bytes (Ok (Some f)) q to =
     (step kind setup p at (drop at bytes) ≡ found (f .«record») q) × (f .offset ≡ at) × (to ≡ at + length (recordBytes (f .«record»)))
 Next kind setup p at bytes (Err e) q to = (step kind setup p at (drop at bytes) ≡ refused (shown e)) × (q ≡ p) × (to ≡ at)
+
+-- LISTS OF RECORDS
+
+abbrev pub isDue : Due → Record → Bool
+isDue due.Header (record-kinds.Header _) = true
+isDue due.Header (record-kinds.Section _) = false
+isDue due.Header (record-kinds.Interval _) = false
+isDue due.Header (record-kinds.Action _) = false
+isDue due.Section (record-kinds.Header _) = false
+isDue due.Section (record-kinds.Section _) = true
+isDue due.Section (record-kinds.Interval _) = false
+isDue due.Section (record-kinds.Action _) = false
+isDue due.Interval (record-kinds.Header _) = false
+isDue due.Interval (record-kinds.Section _) = false
+isDue due.Interval (record-kinds.Interval _) = true
+isDue due.Interval (record-kinds.Action _) = false
+isDue due.Action (record-kinds.Header _) = false
+isDue due.Action (record-kinds.Section _) = false
+isDue due.Action (record-kinds.Interval _) = false
+isDue due.Action (record-kinds.Action _) = true
+isDue due.End _ = false
+
+abbrev pub granted : Verdict → Option Progress
+granted (Passed p) = Some p
+granted Foreign = None
+granted Broken = None
+
+-- the progress after one more record, where it is due and lawful
+abbrev pub onward : Meaning → Setup → Option Progress → Record → Option Progress
+onward kind setup None r = None
+onward kind setup (Some p) r = cond (isDue (p .due) r) (granted (admitted kind setup p r)) None
+
+-- the progress after these records, where each is due and lawful after those before it
+abbrev pub reading : Meaning → Setup → List Record → Option Progress
+reading kind setup rs = folded (onward kind setup) (Some start) rs
+
+abbrev pub isAction : Record → Bool
+isAction (record-kinds.Header _) = false
+isAction (record-kinds.Section _) = false
+isAction (record-kinds.Interval _) = false
+isAction (record-kinds.Action _) = true
