@@ -5,6 +5,8 @@ use mathlib.Core.List.{List, [], _∷_, _++_}
 use Prim.Native.Nat.{ℕ, suc, _+_}
 use lib.ListN.{drop, length}
 use Rattle.std.specs.Iters.{folded}
+use Rattle.std.specs.Joined.{joined}
+use Rattle.std.specs.shelf.Lists.{countBy}
 use Rattle.std.specs.declared.option.Option.{Option}
 use Rattle.std.specs.declared.option.Option.the-variants.{Some, None}
 use Rattle.std.specs.declared.result.Result.{Result}
@@ -110,3 +112,16 @@ isAction (record-kinds.Header _) = false
 isAction (record-kinds.Section _) = false
 isAction (record-kinds.Interval _) = false
 isAction (record-kinds.Action _) = true
+
+-- the first bytes are these records, each due and lawful after those before it
+pub record Begun (kind : Meaning) (setup : Setup) (bytes : List ℕ) (at : ℕ) (p : Progress) : Type 0 where
+  pub records : List Record
+  pub lawful : reading kind setup records ≡ Some p
+  pub front : bytes ≡ joined recordBytes records ++ drop at bytes
+  pub far : at ≡ length (joined recordBytes records)
+
+-- what reading all the bytes comes to: a whole message with so many actions, or a refusal after a lawful beginning
+abbrev pub Scanned : Meaning → Setup → List ℕ → Result ℕ ReaderFault → Type 0
+Scanned kind setup bytes (Ok n) =
+    (p : Progress) × (at : ℕ) × (b : Begun kind setup bytes at p) × (step kind setup p at (drop at bytes) ≡ ended) × (n ≡ countBy isAction (b .records))
+Scanned kind setup bytes (Err e) = (p : Progress) × (at : ℕ) × Begun kind setup bytes at p × (step kind setup p at (drop at bytes) ≡ refused (shown e))

@@ -1,4 +1,5 @@
 // Messages between the sites of a group: their four records, and the writing and reading of them.
+mod checks;
 mod cursor;
 mod decodes;
 mod faults;
