@@ -2,5 +2,6 @@ pub mod Buffer
 pub mod Decoding
 pub mod Faults
 pub mod Format
+pub mod Lawful
 pub mod Progress
 pub mod Reading
