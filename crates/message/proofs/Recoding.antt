@@ -7,6 +7,7 @@ use native.Mathlib.Omega.{arith}
 use lib.Dec.{eqb, leb}
 use lib.IntN.{ℤ}
 use lib.ListN.{drop, getD, length}
+use mir.Facts.{sfits-toZ}
 use mir.Syntax.{w32}
 use mir.Val.{toZ, ofZ}
 use Rattle.std.specs.Iters.{counting}
@@ -22,6 +23,7 @@ use Rattle.message.specs.declared.reading.Due.the-variants as due
 use Rattle.message.specs.declared.records.Record.{Record}
 use Rattle.message.specs.declared.records.Record.the-variants as record-kinds
 use Rattle.message.specs.Decoding.{begins, decoded, headerIn, intervalIn, number2, sectionIn}
+use Rattle.message.specs.Fields.{ActionFits, Fitting, HeaderFits, IntervalFits, SectionFits}
 use Rattle.message.specs.Format.{headerBytes, intervalBytes, recordBytes, sectionBytes}
 use Rattle.message.specs.Reading.{isDue}
 use Rattle.message.proofs.Digits.{four-digits, two-digits}
@@ -63,8 +65,31 @@ module _ (bs : List ℕ) (bytes : (i : ℕ) → getD bs i 0 < 256) where
   told : (kind size : ℕ) → begins kind size bs ≡ true → (size ≤ length bs) × (getD bs 0 0 ≡ kind)
   told kind size h = let parts = and-parts (leb size (length bs)) (eqb (getD bs 0 0) kind) h in (leb-true size (length bs) (parts .0), eqb-true (getD bs 0 0) kind (parts .1))
 
+  number2-lt : (i : ℕ) → number2 bs i < 65536
+  number2-lt i = omega (arith, bytes i, bytes (i + 1))
+
+  header-fits : HeaderFits (headerIn bs)
+  header-fits = record { group = number2-lt 1; kind = bytes 3; sender = bytes 4; sections = bytes 5 }
+
+  section-fits : SectionFits (sectionIn bs)
+  section-fits = record { article = bytes 1; intervals = bytes 2; actions = number2-lt 3 }
+
+  interval-fits : IntervalFits (intervalIn bs)
+  interval-fits = record { site = bytes 1; from = number4-lt 2; to = number4-lt 6 }
+
+  action-fits : ActionFits (actionOf bs)
+  action-fits = record {
+    coordinator = bytes 1;
+    time = number4-lt 2;
+    transaction = number4-lt 6;
+    article = bytes 10;
+    operation = bytes 11;
+    amount = sfits-toZ record { fits = number4-lt 12 };
+  }
+
+  -- the record was due, its fields fit, and the bytes begin with its own
   abbrev Back : Due → Record → Type 0
-  Back d r = (isDue d r ≡ true) × (bs ≡ recordBytes r ++ drop (length (recordBytes r)) bs)
+  Back d r = (isDue d r ≡ true) × Fitting r × (bs ≡ recordBytes r ++ drop (length (recordBytes r)) bs)
 
   chosen : (b : Bool) (x : Record) (r : Record) → cond b (Whole x) Cut ≡ Whole r → (b ≡ true) × (x ≡ r)
   chosen true x r h = (refl, cc)
@@ -74,19 +99,19 @@ module _ (bs : List ℕ) (bytes : (i : ℕ) → getD bs i 0 < 256) where
   whole-back due.Header r h =
       let c = chosen _ _ r h in
       let t = told 0x48 6 (c .0) in
-      subst (Back due.Header) (c .1) (refl, header-back (t .0) (t .1))
+      subst (Back due.Header) (c .1) (refl, header-fits, header-back (t .0) (t .1))
   whole-back due.Section r h =
       let c = chosen _ _ r h in
       let t = told 0x53 5 (c .0) in
-      subst (Back due.Section) (c .1) (refl, section-back (t .0) (t .1))
+      subst (Back due.Section) (c .1) (refl, section-fits, section-back (t .0) (t .1))
   whole-back due.Interval r h =
       let c = chosen _ _ r h in
       let t = told 0x49 10 (c .0) in
-      subst (Back due.Interval) (c .1) (refl, interval-back (t .0) (t .1))
+      subst (Back due.Interval) (c .1) (refl, interval-fits, interval-back (t .0) (t .1))
   whole-back due.Action r h =
       let c = chosen _ _ r h in
       let t = told 0x41 16 (c .0) in
-      subst (Back due.Action) (c .1) (refl, action-back (t .0) (t .1))
+      subst (Back due.Action) (c .1) (refl, action-fits, action-back (t .0) (t .1))
   whole-back due.End r h = absurd (never (eqb (length bs) 0) h)
     where
     never : (b : Bool) → cond b Finished Trailing ≡ Whole r → ⊥

@@ -11,6 +11,7 @@ use Rattle.std.specs.shelf.Lists.{countBy}
 use Rattle.std.specs.declared.option.Option.{Option}
 use Rattle.std.specs.declared.option.Option.the-variants.{Some, None}
 use Rattle.std.specs.declared.result.Result.the-variants.{Ok}
+use Rattle.std.proofs.shelf.Elements.{all-push}
 use Rattle.std.proofs.shelf.Lists.{append-assoc, drop-drop, getD-drop, length-append}
 use Rattle.std.proofs.shelf.Sums.{folded-push, sumBy-push}
 use Rattle.action.specs.declared.refusals.Refusal.{Refusal}
@@ -25,6 +26,7 @@ use Rattle.message.specs.declared.reading.Verdict.the-variants.{Passed, Foreig
 use Rattle.message.specs.declared.records.Record.{Record}
 use Rattle.message.specs.declared.records.Record.the-variants as record-kinds
 use Rattle.message.specs.Decoding.{decoded}
+use Rattle.message.specs.Fields.{Fitting}
 use Rattle.message.specs.Format.{recordBytes}
 use Rattle.message.specs.Progress.{admitted, start}
 use Rattle.message.specs.Reading.{Begun, Next, Step, ended, found, granted, isAction, isDue, judged, onward, reading, refused, step, stepped}
@@ -51,7 +53,7 @@ onward-passes kind setup p q r is passed = ap (λ b. cond b (granted (admitted k
 
 module _ (kind : Meaning) (setup : Setup) (bytes : List ℕ) (fits : (i : ℕ) → getD bytes i 0 < 256) where
   abbrev pub begun-none : Begun kind setup bytes 0 start
-  begun-none = record { records = []; lawful = refl; front = refl; far = refl }
+  begun-none = record { records = []; lawful = refl; fitting = tt; front = refl; far = refl }
 
   abbrev pub begun-more : (at : ℕ) (p q : Progress) (r : Record) (b : Begun kind setup bytes at p) → step kind setup p at (drop at bytes) ≡ found r q → Begun kind setup bytes (at + length (recordBytes r)) q
   begun-more at p q r b h =
@@ -61,7 +63,8 @@ module _ (kind : Meaning) (setup : Setup) (bytes : List ℕ) (fits : (i : ℕ) �
       record {
         records = b .records ++ (r ∷ []);
         lawful = folded-push (onward kind setup) (Some start) (b .records) r ∙ ap (λ o. onward kind setup o r) (b .lawful) ∙ onward-passes kind setup p q r (back .0) (parts .1);
-        front = b .front ∙ ap (λ l. joined recordBytes (b .records) ++ l) (back .1 ∙ ap (λ l. recordBytes r ++ l) (drop-drop size at bytes)) ∙ sym (append-assoc (joined recordBytes (b .records)) (recordBytes r) (drop (at + size) bytes)) ∙ ap (λ l. l ++ drop (at + size) bytes) (sym (joined-push recordBytes (b .records) r));
+        fitting = all-push Fitting (b .records) r (b .fitting) (back .1);
+        front = b .front ∙ ap (λ l. joined recordBytes (b .records) ++ l) (back .2 ∙ ap (λ l. recordBytes r ++ l) (drop-drop size at bytes)) ∙ sym (append-assoc (joined recordBytes (b .records)) (recordBytes r) (drop (at + size) bytes)) ∙ ap (λ l. l ++ drop (at + size) bytes) (sym (joined-push recordBytes (b .records) r));
         far = ap (λ n. n + size) (b .far) ∙ sym (length-append (joined recordBytes (b .records)) (recordBytes r)) ∙ ap length (sym (joined-push recordBytes (b .records) r));
       }
 

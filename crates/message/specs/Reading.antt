@@ -6,7 +6,7 @@ use Prim.Native.Nat.{ℕ, suc, _+_}
 use lib.ListN.{drop, length}
 use Rattle.std.specs.Iters.{folded}
 use Rattle.std.specs.Joined.{joined}
-use Rattle.std.specs.shelf.Lists.{countBy}
+use Rattle.std.specs.shelf.Lists.{All, countBy}
 use Rattle.std.specs.declared.option.Option.{Option}
 use Rattle.std.specs.declared.option.Option.the-variants.{Some, None}
 use Rattle.std.specs.declared.result.Result.{Result}
@@ -30,6 +30,7 @@ use Rattle.message.specs.declared.records.Record.{Record}
 use Rattle.message.specs.declared.records.Record.the-variants as record-kinds
 use Rattle.message.specs.Decoding.{decoded}
 use Rattle.message.specs.Faults.{shown}
+use Rattle.message.specs.Fields.{Fitting}
 use Rattle.message.specs.Format.{recordBytes}
 use Rattle.message.specs.Progress.{admitted, start}
 
@@ -117,6 +118,7 @@ isAction (record-kinds.Action _) = true
 pub record Begun (kind : Meaning) (setup : Setup) (bytes : List ℕ) (at : ℕ) (p : Progress) : Type 0 where
   pub records : List Record
   pub lawful : reading kind setup records ≡ Some p
+  pub fitting : All Fitting records
   pub front : bytes ≡ joined recordBytes records ++ drop at bytes
   pub far : at ≡ length (joined recordBytes records)
 
