@@ -19,6 +19,15 @@ use Rattle.message.specs.Progress.{admitted}
 use Rattle.message.specs.Reading.{isDue, onward}
 use Rattle.message.proofs.Onward.{first-on, some-same}
 
+pub folded-append : {A B : Type 0} (f : B → A → B) (b : B) (xs ys : List A) → folded f b (xs ++ ys) ≡ folded f (folded f b xs) ys
+folded-append f b [] ys = refl
+folded-append f b (x ∷ xs) ys = folded-append f (f b x) xs ys
+
+-- what no step changes
+pub folded-keeps : {A B C : Type 0} (f : B → C) (step : B → A → B) → ((b : B) (a : A) → f (step b a) ≡ f b) → (b : B) (xs : List A) → f (folded step b xs) ≡ f b
+folded-keeps f step keeps b [] = refl
+folded-keeps f step keeps b (x ∷ xs) = folded-keeps f step keeps (step b x) xs ∙ keeps b x
+
 -- each passes the test after those before it
 abbrev pub Run : {X : Type 0} → (Progress → X → Bool) → (Progress → X → Progress) → Progress → List X → Type 0
 Run test after p [] = Unit {0}
