@@ -26,6 +26,9 @@ pub record Lawful (group sites own articles : ℕ) : Type 0 where
 abbrev pub byTable : ℕ → ℕ → Refusal
 byTable number place = record { number = number; place = place; layer = Table }
 
+abbrev pub byReader : ℕ → ℕ → Refusal
+byReader number place = record { number = number; place = place; layer = Reader }
+
 abbrev pub byHistory : ℕ → ℕ → Refusal
 byHistory number place = record { number = number; place = place; layer = History }
 

@@ -9,6 +9,7 @@ pub struct Setup {
     pub own: u8,
     pub articles: u8,
     ghost some_group: { 1 ≤ group },
+    ghost group_fits: { group ≤ 65535 },
     ghost two_sites: { 2 ≤ sites },
     ghost few_sites: { sites ≤ 8 },
     ghost own_site: { own < sites },

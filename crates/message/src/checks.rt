@@ -1,0 +1,30 @@
+ghost use mathlib.Core.Path.{_≡_};
+ghost use Rattle.message.specs.Reading.{Scanned, isAction};
+use crate::cursor::Reader;
+use crate::faults::ReaderFault;
+use crate::records::Record;
+use action::Setup;
+use kind::Kind;
+
+fn is_action(read: &Record) -> bool
+    ensures { λ r. ⌜ r ≡ isAction (now (read .entry)) ⌝ }
+{
+    match read {
+        Record::Action(_) => true,
+        _ => false,
+    }
+}
+
+// Reads all the bytes as one message, and answers how many actions it carries.
+fn scan<K: Kind>(setup: Setup, bytes: &[u8]) -> Result<usize, ReaderFault>
+    ensures { λ r. ⌜ Scanned means setup (now (bytes .entry)) r ⌝ }
+{
+    let mut reader = Reader::new(setup, bytes);
+    let mut actions = 0;
+    while let Some(found) = reader.next::<K>()? {
+        if is_action(&found.record) {
+            actions += 1;
+        }
+    }
+    Ok(actions)
+}
