@@ -7,7 +7,7 @@ use Prim.Native.Nat.{ℕ, _+_, _<_, _≤_, max}
 use native.Mathlib.Omega.{arith}
 use lib.IntN.{ℤ}
 use lib.ListN.{getD, length, replicate}
-use mir.Syntax.{w64}
+use mir.Syntax.{w32, w64}
 use mir.Val.{SFits}
 use Rattle.std.specs.shelf.Lists.{All}
 use Rattle.std.specs.declared.option.Option.{Option}
@@ -43,7 +43,7 @@ passed false r rest h = absurd (let z : _≡_ {A = ℕ} 0 1 = cc in omega arith)
 
 -- NEW
 
-module _ (kind : Meaning) (setup : Setup) (capacity : ℕ) (start-fits : SFits w64 (kind .starts)) where
+module _ (kind : Meaning) (setup : Setup) (capacity : ℕ) (few-places : capacity ≤ 1024) (start-fits : SFits w64 (kind .starts)) where
   abbrev first : View
   first = fresh kind setup capacity
 
@@ -61,6 +61,7 @@ module _ (kind : Meaning) (setup : Setup) (capacity : ℕ) (start-fits : SFits w
   fresh-sound = record {
     ordered = tt;
     held = omega arith;
+    few-places = few-places;
     fitting = tt;
     reached = tt;
     believed = λ a z q. omega (arith, fresh-entry a z q);
@@ -82,6 +83,7 @@ module _ (kind : Meaning) (v : View) (s : Sound kind v) where
   opened-sound = record {
     ordered = s .ordered;
     held = s .held;
+    few-places = s .few-places;
     fitting = s .fitting;
     reached = s .reached;
     believed = s .believed;
@@ -100,6 +102,7 @@ module _ (kind : Meaning) (v : View) (s : Sound kind v) where
   abandoned-sound = record {
     ordered = s .ordered;
     held = s .held;
+    few-places = s .few-places;
     fitting = s .fitting;
     reached = s .reached;
     believed = s .believed;
@@ -118,6 +121,7 @@ module _ (kind : Meaning) (v : View) (s : Sound kind v) where
   written-sound x is-open w few late = record {
     ordered = s .ordered;
     held = s .held;
+    few-places = s .few-places;
     fitting = s .fitting;
     reached = s .reached;
     believed = s .believed;
@@ -225,6 +229,7 @@ module _ (kind : Meaning) (v : View) (s : Sound kind v) (free : length (v .histo
   committed-sound = record {
     ordered = ascending-append (v .clock) (v .history) (v .pending) in-clock (all-weaker (λ x. (v .clock + 0 < x .time) × (x .time ≤ v .clock + 0 + length (v .pending))) (λ x. v .clock < x .time) (λ x h. omega (arith, h .0)) (v .pending) times) (s .ordered) (waiting-ascending kind (v .setup) (v .clock) 0 (v .pending) (s .waiting));
     held = omega (arith, length-append (v .history) (v .pending));
+    few-places = s .few-places;
     fitting = all-append (Fitting kind (v .setup)) (v .history) (v .pending) (s .fitting) (waiting-fitting kind (v .setup) (v .clock) 0 (v .pending) (s .waiting));
     reached = all-append (λ x. x .time ≤ entry w (x .article) own (x .coordinator)) (v .history) (v .pending) (all-weaker (λ x. x .time ≤ entry v (x .article) own (x .coordinator)) (λ x. x .time ≤ entry w (x .article) own (x .coordinator)) (λ x h. omega (arith, h, entry-ge (x .article) own (x .coordinator))) (v .history) (s .reached)) reached-pending;
     believed = believed;
@@ -253,9 +258,9 @@ module _ (kind : Meaning) (v w : View) (s : Sound kind v) where
   abandon-keeps t (Ok _) h = subst (Sound kind) (sym (h .1)) (abandoned-sound kind v s)
   abandon-keeps t (Err e) h = subst (Sound kind) (sym (h .2)) s
 
-  pub write-keeps : (t : Ticket) (article operation : ℕ) (amount : ℤ) (r : Result ℕ TableFault) → Wrote kind v t article operation amount r w → Sound kind w
-  write-keeps t article operation amount (Err e) h = subst (Sound kind) (sym (h .1)) s
-  write-keeps t article operation amount (Ok time) h =
+  pub write-keeps : (t : Ticket) (article operation : ℕ) (amount : ℤ) → operation < 256 → SFits w32 amount → (r : Result ℕ TableFault) → Wrote kind v t article operation amount r w → Sound kind w
+  write-keeps t article operation amount one four (Err e) h = subst (Sound kind) (sym (h .1)) s
+  write-keeps t article operation amount one four (Ok time) h =
       let held = passed (holds kind v t) _ _ (h .0) in
       let listed = passed _ _ _ (held .1) in
       let known = passed (kind .knows operation amount) _ _ (listed .1) in
@@ -267,6 +272,8 @@ module _ (kind : Meaning) (v w : View) (s : Sound kind v) where
         numbered = refl;
         listed = ltb-true article (v .setup .articles) (listed .0);
         known = known .0;
+        one-byte = one;
+        four-bytes = four;
       }) (ltb-true (length (v .pending)) 16 (few .0)) (leb-true (nextTime v) 4000000000 (late .0)))
 
   pub commit-keeps : (t : Ticket) (b after : List ℕ) (r : Result (ℕ × ℕ) (TableFault × Ticket)) → Committed kind v t b r w after → Sound kind w

@@ -36,6 +36,8 @@ module _ (kind : Meaning) (setup : Setup) (clock : ℕ) where
           in-turn = omega (arith, w .timed, w .numbered);
           listed = w .listed;
           known = w .known;
+          one-byte = w .one-byte;
+          four-bytes = w .four-bytes;
         },
         waiting-fitting (suc i) xs (h .1),
       )

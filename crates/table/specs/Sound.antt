@@ -4,7 +4,7 @@ use mathlib.Core.Bool.{true, false}
 use mathlib.Core.List.{List, [], _∷_}
 use Prim.Native.Nat.{ℕ, suc, _+_, _<_, _≤_}
 use lib.ListN.{length}
-use mir.Syntax.{w64}
+use mir.Syntax.{w32, w64}
 use mir.Val.{SFits}
 use Rattle.std.specs.shelf.Lists.{All}
 use Rattle.action.specs.declared.orders.Action.{Action}
@@ -23,6 +23,8 @@ pub record Fitting (kind : Meaning) (setup : Setup) (x : Action) : Type 0 where
   pub in-turn : x .transaction ≤ x .time
   pub listed : x .article < setup .articles
   pub known : knowsAction (kind .knows) x ≡ true
+  pub one-byte : x .operation < 256
+  pub four-bytes : SFits w32 (x .amount)
 
 -- the i-th pending action, counted from 0, of a transaction that was opened at the clock's time
 pub record Waiting (kind : Meaning) (setup : Setup) (clock i : ℕ) (x : Action) : Type 0 where
@@ -31,6 +33,8 @@ pub record Waiting (kind : Meaning) (setup : Setup) (clock i : ℕ) (x : Action)
   pub numbered : x .transaction ≡ clock + 1
   pub listed : x .article < setup .articles
   pub known : knowsAction (kind .knows) x ≡ true
+  pub one-byte : x .operation < 256
+  pub four-bytes : SFits w32 (x .amount)
 
 abbrev pub AllWaiting : Meaning → Setup → ℕ → ℕ → List Action → Type 0
 AllWaiting kind setup clock i [] = Unit {0}
@@ -44,6 +48,7 @@ pub record Sound (kind : Meaning) (v : View) : Type 0 where
   -- the history is in strict order and within its capacity
   pub ordered : Ascending (v .history)
   pub held : length (v .history) ≤ v .capacity
+  pub few-places : v .capacity ≤ 1024
   pub fitting : All (Fitting kind (v .setup)) (v .history)
   -- no action is above its coordinator's entry in the vector
   pub reached : All (λ x. x .time ≤ entry v (x .article) (v .setup .own) (x .coordinator)) (v .history)

@@ -35,5 +35,5 @@ returns g c =
     } in
     record {
       does = made;
-      sound = subst (Sound kind) (sym made) (fresh-sound kind (c .args .setup) capacity (g .K·Kind·met .«start_fits»));
+      sound = subst (Sound kind) (sym made) (fresh-sound kind (c .args .setup) capacity (g .H·History·met .bounded (c .args .history) .1) (g .K·Kind·met .«start_fits»));
     }

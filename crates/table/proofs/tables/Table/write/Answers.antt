@@ -14,5 +14,5 @@ returns g c =
     let wrote = subst (λ z. Wrote kind v (c .args .ticket .now) (c .args .article) (c .args .operation) z (c .add .result) w) (toZ-ofZ w32 (c .args .amount) (c .fits .amount)) (c .add .ensures) in
     record {
       does = wrote;
-      sound = λ s. write-keeps kind v w s (c .args .ticket .now) (c .args .article) (c .args .operation) (c .args .amount) (c .add .result) wrote;
+      sound = λ s. write-keeps kind v w s (c .args .ticket .now) (c .args .article) (c .args .operation) (c .args .amount) (c .fits .operation .fits) (c .fits .amount) (c .add .result) wrote;
     }
