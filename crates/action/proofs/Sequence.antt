@@ -1,10 +1,10 @@
 -- The order of actions, and lists in that order. Assumes nothing.
 use mathlib.Core.Path.{_≡_}
-use mathlib.Core.Bool.{true}
+use mathlib.Core.Bool.{Bool, true, false, cond}
 use mathlib.Core.List.{List, [], _∷_, _++_}
 use Prim.Native.Nat.{ℕ, _<_, _≤_}
 use native.Mathlib.Omega.{arith}
-use Rattle.std.specs.shelf.Lists.{All}
+use Rattle.std.specs.shelf.Lists.{All, kept-by}
 use Rattle.std.proofs.shelf.Tests.{lt-ltb, or-left}
 use Rattle.action.specs.declared.orders.Action.{Action}
 use Rattle.action.specs.Order.{Ascending, Leads, precedes}
@@ -24,3 +24,20 @@ leads-later c x (y ∷ ys) h k = (precedes-by-time x y (omega (arith, k .0)), le
 pub ascending-append : (c : ℕ) (xs ys : List Action) → All (λ x. x .time ≤ c) xs → All (λ y. c < y .time) ys → Ascending xs → Ascending ys → Ascending (xs ++ ys)
 ascending-append c [] ys h k a b = b
 ascending-append c (x ∷ xs) ys h k a b = (leads-append x xs ys (a .0) (leads-later c x ys (h .0) k), ascending-append c xs ys (h .1) k (a .1) b)
+
+-- a part of a list in order is in order
+leads-kept : (p : Action → Bool) (x : Action) (ys : List Action) → Leads x ys → Leads x (kept-by p ys)
+leads-kept p x [] h = tt
+leads-kept p x (y ∷ ys) h = by-test (leads-kept p x ys (h .1)) (p y)
+  where
+  by-test : Leads x (kept-by p ys) → (b : Bool) → Leads x (cond b (y ∷ kept-by p ys) (kept-by p ys))
+  by-test rest true = (h .0, rest)
+  by-test rest false = rest
+
+pub ascending-kept : (p : Action → Bool) (xs : List Action) → Ascending xs → Ascending (kept-by p xs)
+ascending-kept p [] h = tt
+ascending-kept p (x ∷ xs) h = by-test (ascending-kept p xs (h .1)) (p x)
+  where
+  by-test : Ascending (kept-by p xs) → (b : Bool) → Ascending (cond b (x ∷ kept-by p xs) (kept-by p xs))
+  by-test rest true = (leads-kept p x xs (h .0), rest)
+  by-test rest false = rest

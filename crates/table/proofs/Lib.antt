@@ -1,7 +1,9 @@
 pub mod Entries
 pub mod Filtered
+pub mod Lawfulness
 pub mod Offering
 pub mod Posting
+pub mod Rising
 pub mod RowLaws
 pub mod Sections
 pub mod Soundness
