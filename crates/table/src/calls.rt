@@ -1,8 +1,11 @@
-// The calls that change a table. Each says exactly what it answers and leaves, and that it keeps a
-// sound table sound.
+// The calls that change a table or write a message. Each says exactly what it answers and leaves, that
+// it keeps a sound table sound, and that what a sound table writes is a lawful message for its group.
 ghost use mathlib.Core.Path.{_≡_};
+ghost use Prim.Native.Nat.{_<_};
+ghost use Rattle.message.specs.Lawful.{LawfulMessage};
+ghost use Rattle.table.specs.Offers.{Offered, offerMessage};
 ghost use Rattle.table.specs.Sound.{Sound};
-ghost use Rattle.table.specs.Transactions.{Abandoned, Committed, Opened, Wrote};
+ghost use Rattle.table.specs.Transactions.{Abandoned, Committed, Opened, Wrote, transactionMessage};
 ghost use Rattle.table.specs.View.{view};
 use crate::faults::TableFault;
 use crate::tables::Table;
@@ -42,6 +45,7 @@ impl<K: Kind, H: History> Table<K, H> {
     ) -> Result<(usize, usize), (TableFault, Ticket)>
         ensures does { λ r. ⌜ Committed means (view items room (now (self .entry))) ticket (now (buffer .entry)) r (view items room (now (self .exit))) (now (buffer .exit)) ⌝ }
         ensures sound { λ _. ⌜ (Sound means (view items room (now (self .entry))) → Sound means (view items room (now (self .exit)))) ⌝ }
+        ensures lawful { λ _. ⌜ (Sound means (view items room (now (self .entry))) → 0 < now (self .entry) .state .writes → LawfulMessage means (now (self .entry) .state .setup) (transactionMessage means (view items room (now (self .entry))))) ⌝ }
     {
         self.finish(ticket, buffer)
     }
@@ -52,5 +56,14 @@ impl<K: Kind, H: History> Table<K, H> {
         ensures sound { λ _. ⌜ (Sound means (view items room (now (self .entry))) → Sound means (view items room (now (self .exit)))) ⌝ }
     {
         self.cancel(ticket)
+    }
+
+    // Writes, for a peer and an article, all that the peer is not known to have: an interval for
+    // each site and the history's actions in them. Answers the length.
+    pub fn offer(&self, peer: u8, article: u8, buffer: &mut [u8]) -> Result<usize, TableFault>
+        ensures does { λ r. ⌜ Offered means (view items room (now (self .entry))) peer article (now (buffer .entry)) r (now (buffer .exit)) ⌝ }
+        ensures lawful { λ _. ⌜ (Sound means (view items room (now (self .entry))) → article < now (self .entry) .state .setup .articles → LawfulMessage means (now (self .entry) .state .setup) (offerMessage means (view items room (now (self .entry))) peer article)) ⌝ }
+    {
+        self.write_offer(peer, article, buffer)
     }
 }

@@ -97,9 +97,7 @@ impl<K: Kind, H: History> Table<K, H> {
         Ok(at)
     }
 
-    // Writes, for a peer and an article, all that the peer is not known to have: an interval for
-    // each site and the history's actions in them. Answers the length.
-    pub fn offer(&self, peer: u8, article: u8, buffer: &mut [u8]) -> Result<usize, TableFault>
+    pub(crate) fn write_offer(&self, peer: u8, article: u8, buffer: &mut [u8]) -> Result<usize, TableFault>
         ensures { λ r. ⌜ Offered means (view items room (now (self .entry))) peer article (now (buffer .entry)) r (now (buffer .exit)) ⌝ }
     {
         let setup = self.state.setup;
