@@ -1,4 +1,5 @@
 pub mod Buffer
+pub mod Checks
 pub mod Decoding
 pub mod Faults
 pub mod Fields

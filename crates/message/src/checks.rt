@@ -1,4 +1,5 @@
 ghost use mathlib.Core.Path.{_≡_};
+ghost use Rattle.message.specs.Checks.{Accepted, Refused};
 ghost use Rattle.message.specs.Reading.{Scanned, isAction};
 use crate::cursor::Reader;
 use crate::faults::ReaderFault;
@@ -27,4 +28,13 @@ fn scan<K: Kind>(setup: Setup, bytes: &[u8]) -> Result<usize, ReaderFault>
         }
     }
     Ok(actions)
+}
+
+// Are the bytes a message for a table of this set-up and kind? Answers how many actions it carries, or
+// the first fault.
+pub fn check<K: Kind>(setup: Setup, bytes: &[u8]) -> Result<usize, ReaderFault>
+    ensures accepted { λ r. ⌜ Accepted means setup (now (bytes .entry)) r ⌝ }
+    ensures refused { λ r. ⌜ Refused means setup (now (bytes .entry)) r ⌝ }
+{
+    scan::<K>(setup, bytes)
 }

@@ -10,6 +10,7 @@ mod rules;
 mod sizes;
 mod writer;
 
+pub use checks::check;
 pub use cursor::Reader;
 pub use faults::ReaderFault;
 pub use reading::Due;
