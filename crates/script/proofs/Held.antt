@@ -49,13 +49,13 @@ move-granted v w u after t article amount time k n slot buffer end first second 
     let message = transactionBytes onHand u in
     let done : Outcome = record { table = committed onHand u; slot = fitting message blank; answer = Number time } in
     let left : record { table = after; slot = take n end; answer = Number time } ≡ done =
-      (λ i. record { table = third .3 i; slot = (ap (take n) (third .4) ∙ held-written buffer (fitting message buffer) n (third .2) ∙ fitting-blank message buffer long) i; answer = Number time })
+    (λ i. record { table = third .3 i; slot = (ap (take n) (third .4) ∙ held-written buffer (fitting message buffer) n (third .2) ∙ fitting-blank message buffer long) i; answer = Number time })
     in
     let committing : movedWritten v u time slot ≡ done = ap (λ o. decided o (refusedAt (abandoned u) slot) done) (ap (commitRefusal onHand u) (sym (first .1)) ∙ third .0) in
     let writing : movedOpened v w article amount slot ≡ movedWritten v u time slot =
-      ap (λ o. decided o (refusedAt (abandoned w) slot) (movedWritten v (written w (newAction w article 1 amount)) (nextTime w) slot)) (ap (λ s. writeRefusal onHand w s article 1 amount) (sym (first .1)) ∙ second .0) ∙ (λ i. movedWritten v (sym (second .2) i) (sym (second .1) i) slot)
+    ap (λ o. decided o (refusedAt (abandoned w) slot) (movedWritten v (written w (newAction w article 1 amount)) (nextTime w) slot)) (ap (λ s. writeRefusal onHand w s article 1 amount) (sym (first .1)) ∙ second .0) ∙ (λ i. movedWritten v (sym (second .2) i) (sym (second .1) i) slot)
     in
     let opening : moved v article amount slot ≡ movedOpened v w article amount slot =
-      ap (λ o. decided o (refusedAt v slot) (movedOpened v (opened v) article amount slot)) (first .0) ∙ (λ i. movedOpened v (sym (first .2) i) article amount slot)
+    ap (λ o. decided o (refusedAt v slot) (movedOpened v (opened v) article amount slot)) (first .0) ∙ (λ i. movedOpened v (sym (first .2) i) article amount slot)
     in
     left ∙ sym (opening ∙ writing ∙ committing)

@@ -9,8 +9,11 @@ ghost use Rattle.script.specs.Slots.{held};
 use crate::answers::Answer;
 use crate::slots::Slot;
 use history::History;
-use kind::{OnHand, OnHandKind};
-use table::{Table, TableFault, Ticket};
+use kind::OnHand;
+use kind::OnHandKind;
+use table::Table;
+use table::TableFault;
+use table::Ticket;
 
 // The operation that adds an amount.
 const ADD: u8 = 1;
@@ -28,7 +31,12 @@ fn give_up<H: History>(table: &mut Table<OnHand, H>, ticket: Ticket)
 
 // A transaction of one write, whose message goes into the slot. It is abandoned where its write or
 // its commit is refused.
-pub(crate) fn move_stock<H: History>(table: &mut Table<OnHand, H>, article: u8, amount: i32, slot: &mut Slot) -> Result<Answer, TableFault>
+pub(crate) fn move_stock<H: History>(
+    table: &mut Table<OnHand, H>,
+    article: u8,
+    amount: i32,
+    slot: &mut Slot,
+) -> Result<Answer, TableFault>
     ensures { λ r. ⌜ Moved (view items room (now (table .entry))) article amount (held (now (slot .entry))) r (view items room (now (table .exit))) (held (now (slot .exit))) ⌝ }
 {
     let ticket = table.open()?;
@@ -52,7 +60,12 @@ pub(crate) fn move_stock<H: History>(table: &mut Table<OnHand, H>, article: u8, 
 }
 
 // Offers the article to the peer, into the slot.
-pub(crate) fn offer_article<H: History>(table: &Table<OnHand, H>, peer: u8, article: u8, slot: &mut Slot) -> Result<Answer, TableFault>
+pub(crate) fn offer_article<H: History>(
+    table: &Table<OnHand, H>,
+    peer: u8,
+    article: u8,
+    slot: &mut Slot,
+) -> Result<Answer, TableFault>
     ensures { λ r. ⌜ Offered (view items room (now (table .entry))) peer article (held (now (slot .entry))) r (held (now (slot .exit))) ⌝ }
 {
     let length = table.offer(peer, article, &mut slot.bytes)?;
@@ -60,14 +73,21 @@ pub(crate) fn offer_article<H: History>(table: &Table<OnHand, H>, peer: u8, arti
     Ok(Answer::Number(length as u64))
 }
 
-pub(crate) fn figure_shown<H: History>(table: &Table<OnHand, H>, article: u8) -> Result<Answer, TableFault>
+pub(crate) fn figure_shown<H: History>(
+    table: &Table<OnHand, H>,
+    article: u8,
+) -> Result<Answer, TableFault>
     ensures { λ r. ⌜ answered r ≡ figured (view items room (now (table .entry))) article ⌝ }
 {
     let figure = table.figure(article)?;
     Ok(Answer::Figure(figure))
 }
 
-pub(crate) fn open_item_shown<H: History>(table: &Table<OnHand, H>, peer: u8, article: u8) -> Result<Answer, TableFault>
+pub(crate) fn open_item_shown<H: History>(
+    table: &Table<OnHand, H>,
+    peer: u8,
+    article: u8,
+) -> Result<Answer, TableFault>
     ensures { λ r. ⌜ answered r ≡ flagged (view items room (now (table .entry))) peer article ⌝ }
 {
     let is_open = table.open_item(article, peer)?;

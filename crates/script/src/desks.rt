@@ -1,7 +1,8 @@
 ghost use mathlib.Core.Path.{_≡_};
 ghost use lib.ListN.{length};
 use crate::slots::Slot;
-use history::{Rack, Strip};
+use history::Rack;
+use history::Strip;
 use kind::OnHand;
 use table::Table;
 

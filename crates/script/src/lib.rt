@@ -11,8 +11,14 @@ mod scripts;
 mod sheets;
 mod slots;
 
-pub use answers::{Answer, AnswerDebug, AnswerEq, AnswerPartialEq};
-pub use commands::{Command, CommandDebug, CommandEq, CommandPartialEq};
+pub use answers::Answer;
+pub use answers::AnswerDebug;
+pub use answers::AnswerEq;
+pub use answers::AnswerPartialEq;
+pub use commands::Command;
+pub use commands::CommandDebug;
+pub use commands::CommandEq;
+pub use commands::CommandPartialEq;
 pub use desks::Desk;
 pub use parses::parse;
 pub use scripts::LONGEST_SCRIPT;

@@ -1,6 +1,7 @@
 ghost use mathlib.Core.Path.{_≡_};
 ghost use mathlib.Core.List.{[], _∷_, _++_};
 ghost use Prim.Native.Nat.{_+_, _<_, _≤_};
+ghost use lib.Chars.{codes};
 ghost use lib.ListN.{length};
 ghost use Rattle.std.specs.Written.{decimal, signed};
 ghost use Rattle.script.specs.Sheets.{answerBytes, printed, sheetBytes};
@@ -70,6 +71,15 @@ impl SheetLine {
         self.put_decimal(figure.unsigned_abs());
     }
 
+    fn put_refusal(&mut self, number: u8)
+        requires { ⌜ now self .used + 9 + length (decimal number) ≤ 32 ⌝ }
+        ensures bytes { λ _. ⌜ sheetBytes (now (self .exit)) ≡ sheetBytes (now (self .entry)) ++ codes " refused " ++ decimal number ⌝ }
+        ensures used { λ _. ⌜ now (self .exit) .used ≡ now (self .entry) .used + 9 + length (decimal number) ⌝ }
+    {
+        self.put(REFUSED);
+        self.put_decimal(u64::from(number));
+    }
+
     // Puts what comes after the letter.
     fn put_answer(&mut self, answer: Answer)
         requires { ⌜ now self .used ≡ 1 ⌝ }
@@ -85,10 +95,7 @@ impl SheetLine {
                 self.push(b' ');
                 self.put_signed(figure);
             }
-            Answer::Refused(number) => {
-                self.put(REFUSED);
-                self.put_decimal(u64::from(number));
-            }
+            Answer::Refused(number) => self.put_refusal(number),
         }
     }
 }

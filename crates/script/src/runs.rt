@@ -4,14 +4,18 @@ ghost use Rattle.script.specs.Acts.{answered};
 ghost use Rattle.script.specs.Desk.{Acted, acted, deskView, letter, ran};
 ghost use Rattle.script.specs.Lines.{Placed};
 ghost use Rattle.script.specs.Sheets.{sheetBytes};
-use crate::acts::{figure_shown, move_stock, offer_article, open_item_shown};
+use crate::acts::figure_shown;
+use crate::acts::move_stock;
+use crate::acts::offer_article;
+use crate::acts::open_item_shown;
 use crate::answers::Answer;
 use crate::commands::Command;
 use crate::desks::Desk;
 use crate::parses::parse;
 use crate::prints::print;
 use crate::sheets::SheetLine;
-use history::{RackHistory, StripHistory};
+use history::RackHistory;
+use history::StripHistory;
 use table::TableFault;
 
 // The number of the refusal of a line that has no known form.
@@ -40,7 +44,13 @@ fn answer(outcome: Result<Answer, TableFault>) -> Answer
 }
 
 impl Desk {
-    fn move_at(&mut self, site: u8, article: u8, amount: i32, slot: u8) -> Result<Answer, TableFault>
+    fn move_at(
+        &mut self,
+        site: u8,
+        article: u8,
+        amount: i32,
+        slot: u8,
+    ) -> Result<Answer, TableFault>
         requires { ⌜ slot < 10 ⌝ }
         ensures { λ r. ⌜ Acted (deskView (now (self .entry))) (Command.Move site article amount slot) r (deskView (now (self .exit))) ⌝ }
     {
@@ -104,7 +114,11 @@ impl Desk {
                 slot,
             } => self.offer_at(site, peer, article, slot),
             Command::Figure { site, article } => self.figure_at(site, article),
-            Command::OpenItem { site, peer, article } => self.open_item_at(site, peer, article),
+            Command::OpenItem {
+                site,
+                peer,
+                article,
+            } => self.open_item_at(site, peer, article),
         }
     }
 

@@ -2,9 +2,13 @@
 ghost use Prim.Native.Nat.{_≤_};
 ghost use lib.ListN.{length};
 ghost use Rattle.std.specs.Vec.{made};
-use script::{Desk, LONGEST_SCRIPT, run_script};
+use script::Desk;
+use script::LONGEST_SCRIPT;
+use script::run_script;
 use std::io;
-use std::io::{Read, Stdin, Write};
+use std::io::Read;
+use std::io::Stdin;
+use std::io::Write;
 
 // Reads until the input ends or the buffer is full, and answers how much it read. Each turn but the
 // last reads a byte or more, so there are turns enough.

@@ -16,12 +16,12 @@ returns c =
     let fits : SFits w32 amount = search needs in
     record {
       form = (λ i. Some (Move (c .in-Continue-site .site) (c .in-Continue-article .article) (toZ-ofZ w32 amount fits i) (c .in-Continue-digit .field-0))) ∙ move-is (c .args .body .now) (c .in-Continue-site .site) (c .in-Continue-article .article) (c .in-Continue-digit .field-0) (c .in-Continue-thousands .thousands) (c .in-Continue-number .field-0) amount
-      (omega (arith, ltb-false, ltb-true))
-      (c .in-Continue-site .ensures tt)
-      (c .in-Continue-article .ensures tt)
-      (c .in-Continue-signed .ensures tt)
-      (c .in-Continue-thousands .ensures tt)
-      (c .in-Continue-number .ensures tt)
-      (c .in-Continue-digit .ensures tt);
+          (omega (arith, ltb-false, ltb-true))
+          (c .in-Continue-site .ensures tt)
+          (c .in-Continue-article .ensures tt)
+          (c .in-Continue-signed .ensures tt)
+          (c .in-Continue-thousands .ensures tt)
+          (c .in-Continue-number .ensures tt)
+          (c .in-Continue-digit .ensures tt);
       placed = c .in-Continue-digit .ensures tt .2;
     }

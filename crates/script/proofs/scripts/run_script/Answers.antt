@@ -25,8 +25,7 @@ loop-rest-again c =
     let inv = c .loop-rest .inv in
     let done = inv .0 in
     let before = ranAll start done in
-    let sheet : c .as-slice .result .now ≡ ran (before .desk) line .bytes = c .as-slice .ensures ∙ c .run-sheet .ensures .bytes ∙ ap (λ d. ran d line .bytes) (inv .2) in
-    (
+    let sheet : c .as-slice .result .now ≡ ran (before .desk) line .bytes = c .as-slice .ensures ∙ c .run-sheet .ensures .bytes ∙ ap (λ d. ran d line .bytes) (inv .2) in (
       done ++ (line ∷ []),
       inv .1 ∙ ap (λ ls. done ++ ls) (c .next-line .ensures .lines) ∙ sym (append-assoc done (line ∷ []) (lines (c .next-line .result .1 .now))),
       c .run-sheet .ensures .desk ∙ ap (λ d. ran d line .desk) (inv .2) ∙ sym (ran-more start done line),
@@ -42,8 +41,7 @@ returns-in-Break-extend-from-slice c =
     let done = inv .0 in
     let fault = err-from-errBy (c .from-residual .result) (c .from-residual .ensures .1) in
     let kept = vec-items (c .loop-rest .out) in
-    subst (λ r. Scripted start (c .args .input .now) out r (deskView (c .run-sheet .last .self)) (vec-items (c .extend-from-slice .last .self))) (sym (fault .1))
-    (
+    subst (λ r. Scripted start (c .args .input .now) out r (deskView (c .run-sheet .last .self)) (vec-items (c .extend-from-slice .last .self))) (sym (fault .1)) (
       done,
       line,
       lines (c .next-line .result .1 .now),

@@ -18,8 +18,8 @@ pub push-requires : need.push-requires
 push-requires t c κs =
     let n = c .args .number in
     elim (c .if-number-ge10 .came) [
-      then-number-ge10 w ↦ omega (arith, length-more n (omega (arith, w .if-number-ge10 .taken)) (omega arith), ap (λ s. s .used) (w .self-is), w .put-decimal .ensures .used)
-    | else-number-ge10 w ↦ omega (arith, decimal-some n (omega arith), ap (λ s. s .used) (w .self-is))
+      | then-number-ge10 w ↦ omega (arith, length-more n (omega (arith, w .if-number-ge10 .taken)) (omega arith), ap (λ s. s .used) (w .self-is), w .put-decimal .ensures .used)
+      | else-number-ge10 w ↦ omega (arith, decimal-some n (omega arith), ap (λ s. s .used) (w .self-is))
     ]
 
 pub returns : need.returns
@@ -27,11 +27,11 @@ returns t c =
     let n = c .args .number in
     let last = (48 + n % 10) ∷ [] in
     elim (c .if-number-ge10 .came) [
-      then-number-ge10 w ↦ record {
+      | then-number-ge10 w ↦ record {
         bytes = c .push .ensures .bytes ∙ ap (λ s. sheetBytes s ++ last) (w .self-is) ∙ ap (λ l. l ++ last) (w .put-decimal .ensures .bytes) ∙ digits-more _ n (omega (arith, w .if-number-ge10 .taken)) (omega arith);
         used = omega (arith, c .push .ensures .used, length-more n (omega (arith, w .if-number-ge10 .taken)) (omega arith), ap (λ s. s .used) (w .self-is), w .put-decimal .ensures .used);
       }
-    | else-number-ge10 w ↦ record {
+      | else-number-ge10 w ↦ record {
         bytes = c .push .ensures .bytes ∙ ap (λ s. sheetBytes s ++ last) (w .self-is) ∙ ap (λ l. sheetBytes (c .args .self .now) ++ l) (digits-one n (omega (arith, w .if-number-ge10 .left)));
         used = omega (arith, c .push .ensures .used, ap length (digits-one n (omega (arith, w .if-number-ge10 .left))), ap (λ s. s .used) (w .self-is));
       }

@@ -27,8 +27,8 @@ put-signed-requires c κs =
     let fits : SFits w64 z = search needs in
     omega (arith, short z fits, ap (λ y. length (signed y)) (toZ-ofZ w64 z fits))
 
-pub put-decimal-requires-in-Refused : need.put-decimal-requires-in-Refused
-put-decimal-requires-in-Refused c κs = omega (arith, length-decimal-le 20 (c .from .result) (omega arith) (omega arith) (omega arith))
+pub put-refusal-requires : need.put-refusal-requires
+put-refusal-requires c κs = omega (arith, length-decimal-le 3 (c .in-Refused .number) (omega arith) (omega arith) (omega arith))
 
 pub returns-in-Number : need.returns-in-Number
 returns-in-Number c =
@@ -53,8 +53,7 @@ returns-in-Figure c =
 pub returns-in-Refused : need.returns-in-Refused
 returns-in-Refused c =
     let before = sheetBytes (c .args .self .now) in
-    let n = c .in-Refused .number in
     record {
-      bytes = c .put-decimal-in-Refused .ensures .bytes ∙ (λ i. c .put .ensures .bytes i ++ decimal (c .from .ensures i)) ∙ append-assoc before (codes " refused ") (decimal n) ∙ ap (λ a. before ++ answerBytes a) (sym (c .in-Refused .is));
-      room = omega (arith, length-decimal-le 20 (c .from .result) (omega arith) (omega arith) (omega arith));
+      bytes = c .put-refusal .ensures .bytes ∙ append-assoc before (codes " refused ") (decimal (c .in-Refused .number)) ∙ ap (λ a. before ++ answerBytes a) (sym (c .in-Refused .is));
+      room = omega (arith, length-decimal-le 3 (c .in-Refused .number) (omega arith) (omega arith) (omega arith));
     }

@@ -18,16 +18,16 @@ returns c =
     let before = sheetBytes (c .args .self .now) in
     let digits : decimal (c .unsigned-abs .result) ≡ decimal (natAbs z) = ap decimal (c .unsigned-abs .ensures .value ∙ ap natAbs (toZ-ofZ w64 z (c .fits .figure))) in
     elim (c .if-figure-lt0 .came) [
-      then-figure-lt0 w ↦
-        let spelled = signed-below z (omega (arith, ints, w .if-figure-lt0 .taken)) in
-        record {
-          bytes = c .put-decimal .ensures .bytes ∙ (λ i. sheetBytes (w .self-is i) ++ digits i) ∙ ap (λ l. l ++ decimal (natAbs z)) (w .push .ensures .bytes) ∙ append-assoc before (45 ∷ []) (decimal (natAbs z)) ∙ ap (λ l. before ++ l) (sym spelled);
-          used = omega (arith, c .put-decimal .ensures .used, ap (λ s. s .used) (w .self-is), w .push .ensures .used, ap length digits, ap length spelled);
-        }
-    | else-figure-lt0 w ↦
-        let spelled = signed-above z (omega (arith, ints, w .if-figure-lt0 .left)) in
-        record {
-          bytes = c .put-decimal .ensures .bytes ∙ (λ i. sheetBytes (w .self-is i) ++ digits i) ∙ ap (λ l. before ++ l) (sym spelled);
-          used = omega (arith, c .put-decimal .ensures .used, ap (λ s. s .used) (w .self-is), ap length digits, ap length spelled);
-        }
+      | then-figure-lt0 w ↦
+          let spelled = signed-below z (omega (arith, ints, w .if-figure-lt0 .taken)) in
+          record {
+            bytes = c .put-decimal .ensures .bytes ∙ (λ i. sheetBytes (w .self-is i) ++ digits i) ∙ ap (λ l. l ++ decimal (natAbs z)) (w .push .ensures .bytes) ∙ append-assoc before (45 ∷ []) (decimal (natAbs z)) ∙ ap (λ l. before ++ l) (sym spelled);
+            used = omega (arith, c .put-decimal .ensures .used, ap (λ s. s .used) (w .self-is), w .push .ensures .used, ap length digits, ap length spelled);
+          }
+      | else-figure-lt0 w ↦
+          let spelled = signed-above z (omega (arith, ints, w .if-figure-lt0 .left)) in
+          record {
+            bytes = c .put-decimal .ensures .bytes ∙ (λ i. sheetBytes (w .self-is i) ++ digits i) ∙ ap (λ l. before ++ l) (sym spelled);
+            used = omega (arith, c .put-decimal .ensures .used, ap (λ s. s .used) (w .self-is), ap length digits, ap length spelled);
+          }
     ]
