@@ -87,7 +87,7 @@ header-due due.Action h is = absurd (false≢true is)
 header-due due.End h is = absurd (false≢true is)
 
 module _ (kind : Meaning) (setup : Setup) where
-  named-told : (h : Header) → named kind setup h ≡ true → Named kind setup h
+  pub named-told : (h : Header) → named kind setup h ≡ true → Named kind setup h
   named-told h e = let parts = and-parts (eqb (h .group) (setup .group)) _ e in (eqb-true _ _ (parts .0), eqb-true _ _ (parts .1))
 
   not-named : (h : Header) → named kind setup h ≡ false → Named kind setup h → ⊥
