@@ -70,9 +70,9 @@ module _ (kind : Meaning) (setup : Setup) where
       let rest = append-cancel-left (recordBytes r) (joined recordBytes rs ++ more) (joined recordBytes qs ++ less) (bytes ∙ ap (λ x. recordBytes x ++ (joined recordBytes qs ++ less)) (sym one)) in
       put one (beginnings (a .next) e f rs qs more less (a .onto) (ap (λ n. folded (onward kind setup) (Some n) qs) (sym on) ∙ b .onto) (fit .1) (git .1) rest)
     where
-    put : r ≡ q → Begins rs qs ⊎ Begins qs rs → Begins (r ∷ rs) (q ∷ qs) ⊎ Begins (q ∷ qs) (r ∷ rs)
-    put one (inl (ts, is)) = inl (ts, λ i. sym one i ∷ is i)
-    put one (inr (ts, is)) = inr (ts, λ i. one i ∷ is i)
+      put : r ≡ q → Begins rs qs ⊎ Begins qs rs → Begins (r ∷ rs) (q ∷ qs) ⊎ Begins (q ∷ qs) (r ∷ rs)
+      put one (inl (ts, is)) = inl (ts, λ i. sym one i ∷ is i)
+      put one (inr (ts, is)) = inr (ts, λ i. one i ∷ is i)
 
   -- what leads on after a lawful beginning
   pub after-beginning : (rs ts : List Record) (p e : Progress) → reading kind setup rs ≡ Some p → reading kind setup (rs ++ ts) ≡ Some e → folded (onward kind setup) (Some p) ts ≡ Some e
@@ -96,8 +96,8 @@ module _ (kind : Meaning) (setup : Setup) where
       let is-it : o .header ≡ t .0 = headers (o .header) (t .0) (t .1) in
       o .other (named-told kind setup (o .header) (ap (named kind setup) is-it ∙ t .2))
     where
-    headers : (g h : Header) → record-kinds.Header g ≡ record-kinds.Header h → g ≡ h
-    headers g h e = cc
+      headers : (g h : Header) → record-kinds.Header g ≡ record-kinds.Header h → g ≡ h
+      headers g h e = cc
   no-further p q at rest why r (rule-broken b) is so fits s =
       let same = same-record (p .due) r (b .broken) rest is (b .was-due) fits (b .fitting) s (b .starts) in
       not-none q (sym (b .stops) ∙ ap (onward kind setup (Some p)) (sym same) ∙ onward-passes kind setup p q r is so)
@@ -107,25 +107,25 @@ module _ (kind : Meaning) (setup : Setup) where
   pub longest : (bytes : List ℕ) (rs qs : List Record) (p q : Progress) (rest less : List ℕ) (at : ℕ) (why : Refusal) → Beginning kind setup bytes rs p rest → Reason kind setup p at rest why → Beginning kind setup bytes qs q less → Begins qs rs
   longest bytes rs qs p q rest less at why b reason c = decide (beginnings start p q rs qs rest less (b .lawful) (c .lawful) (b .fitting) (c .fitting) (sym (b .front) ∙ c .front))
     where
-    decide : Begins rs qs ⊎ Begins qs rs → Begins qs rs
-    decide (inr begins) = begins
-    decide (inl ([], is)) = ([], sym (is ∙ append-nil rs) ∙ sym (append-nil qs))
-    decide (inl (t ∷ ts, is)) =
-        let f = first-on kind setup p q t ts (after-beginning rs (t ∷ ts) p q (b .lawful) (ap (reading kind setup) (sym is) ∙ c .lawful)) in
-        let fits = all-parts Fitting rs (t ∷ ts) (subst (All Fitting) is (c .fitting)) .1 .0 in
-        let cut = ap (λ l. joined recordBytes l ++ less) is ∙ ap (λ l. l ++ less) (joined-append recordBytes rs (t ∷ ts)) ∙ append-assoc (joined recordBytes rs) (joined recordBytes (t ∷ ts)) less in
-        let rest-is = append-cancel-left (joined recordBytes rs) rest _ (sym (b .front) ∙ c .front ∙ cut) in
-        absurd (no-further p (f .next) at rest why t reason (f .was-due) (f .passes) fits (joined recordBytes ts ++ less, rest-is ∙ starts t ts less))
+      decide : Begins rs qs ⊎ Begins qs rs → Begins qs rs
+      decide (inr begins) = begins
+      decide (inl ([], is)) = ([], sym (is ∙ append-nil rs) ∙ sym (append-nil qs))
+      decide (inl (t ∷ ts, is)) =
+          let f = first-on kind setup p q t ts (after-beginning rs (t ∷ ts) p q (b .lawful) (ap (reading kind setup) (sym is) ∙ c .lawful)) in
+          let fits = all-parts Fitting rs (t ∷ ts) (subst (All Fitting) is (c .fitting)) .1 .0 in
+          let cut = ap (λ l. joined recordBytes l ++ less) is ∙ ap (λ l. l ++ less) (joined-append recordBytes rs (t ∷ ts)) ∙ append-assoc (joined recordBytes rs) (joined recordBytes (t ∷ ts)) less in
+          let rest-is = append-cancel-left (joined recordBytes rs) rest _ (sym (b .front) ∙ c .front ∙ cut) in
+          absurd (no-further p (f .next) at rest why t reason (f .was-due) (f .passes) fits (joined recordBytes ts ++ less, rest-is ∙ starts t ts less))
 
 -- a header is due at the start only
 no-header : (intervals actions sections : ℕ) → dueAfter intervals actions sections ≡ due.Header → ⊥
 no-header intervals actions sections h = by-tests (ltb 0 intervals) (ltb 0 actions) (ltb 0 sections) h
   where
-  by-tests : (a b c : Bool) → cond a due.Interval (cond b due.Action (cond c due.Section due.End)) ≡ due.Header → ⊥
-  by-tests true b c e = let z : _≡_ {A = ℕ} 0 1 = cc in omega arith
-  by-tests false true c e = let z : _≡_ {A = ℕ} 0 1 = cc in omega arith
-  by-tests false false true e = let z : _≡_ {A = ℕ} 0 1 = cc in omega arith
-  by-tests false false false e = let z : _≡_ {A = ℕ} 0 1 = cc in omega arith
+    by-tests : (a b c : Bool) → cond a due.Interval (cond b due.Action (cond c due.Section due.End)) ≡ due.Header → ⊥
+    by-tests true b c e = let z : _≡_ {A = ℕ} 0 1 = cc in omega arith
+    by-tests false true c e = let z : _≡_ {A = ℕ} 0 1 = cc in omega arith
+    by-tests false false true e = let z : _≡_ {A = ℕ} 0 1 = cc in omega arith
+    by-tests false false false e = let z : _≡_ {A = ℕ} 0 1 = cc in omega arith
 
 module _ (kind : Meaning) (setup : Setup) where
   after-one : (p q : Progress) (r : Record) (d : Due) → isDue d r ≡ true → admitted kind setup p r ≡ Passed q → q .due ≡ due.Header → ⊥

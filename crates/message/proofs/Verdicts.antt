@@ -35,8 +35,7 @@ module _ (kind : Meaning) (setup : Setup) (bytes : List ℕ) (fits : (i : ℕ) �
   pub scan-accepted : (r : Result ℕ ReaderFault) → Scanned kind setup bytes r → Accepted kind setup bytes r
   scan-accepted (Ok n) (p, at, b, h, many) =
       let end = ended-told kind setup p at (drop at bytes) h in
-      let m = reads-lawful kind setup (b .records) p (b .lawful) (b .fitting) (end .0) in
-      (
+      let m = reads-lawful kind setup (b .records) p (b .lawful) (b .fitting) (end .0) in (
         m .0,
         m .1,
         b .front ∙ ap (λ l. joined recordBytes (b .records) ++ l) (end .1) ∙ append-nil (joined recordBytes (b .records)) ∙ ap (joined recordBytes) (sym (m .2)),
@@ -83,9 +82,9 @@ module _ (kind : Meaning) (setup : Setup) (small : kind .number ≤ 255) (bytes 
       let b = message-begins n k so in
       records-same m n (decide (beginnings kind setup start (a .0) (b .0) (records m) (records n) [] [] (a .1 .lawful) (b .1 .lawful) (a .1 .fitting) (b .1 .fitting) (sym (a .1 .front) ∙ b .1 .front)))
     where
-    decide : Begins (records m) (records n) ⊎ Begins (records n) (records m) → records m ≡ records n
-    decide (inl begins) = begins-same (records m) (records n) begins (sym is ∙ so)
-    decide (inr begins) = sym (begins-same (records n) (records m) begins (sym so ∙ is))
+      decide : Begins (records m) (records n) ⊎ Begins (records n) (records m) → records m ≡ records n
+      decide (inl begins) = begins-same (records m) (records n) begins (sym is ∙ so)
+      decide (inr begins) = sym (begins-same (records n) (records m) begins (sym so ∙ is))
 
   module _ (fits : (i : ℕ) → getD bytes i 0 < 256) where
     pub scan-accepts : (r : Result ℕ ReaderFault) → Scanned kind setup bytes r → Accepts kind setup bytes r
