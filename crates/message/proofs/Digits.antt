@@ -16,8 +16,8 @@ module _ (a b : ℕ) (bs : b < 256) where
 pub two-digits : (a b : ℕ) → a < 256 → b < 256 → bytesOf 2 (a * 256 + b) ≡ a ∷ b ∷ []
 two-digits a b al bl = λ i. (omega-front i ∷ (last a b bl i ∷ []))
   where
-  omega-front : (a * 256 + b) / 256 % 256 ≡ a
-  omega-front = omega arith
+    omega-front : (a * 256 + b) / 256 % 256 ≡ a
+    omega-front = omega arith
 
 pub four-digits : (a b c d : ℕ) → a < 256 → b < 256 → c < 256 → d < 256 → bytesOf 4 (a * 16777216 + b * 65536 + c * 256 + d) ≡ a ∷ b ∷ c ∷ d ∷ []
 four-digits a b c d al bl cl dl =
@@ -29,14 +29,14 @@ four-digits a b c d al bl cl dl =
     let e₃ : n / 16777216 ≡ a = sym (div-div-eq-div-mul n 65536 256) ∙ ap (λ m. m / 256) e₂ ∙ omega arith in
     λ i. ((ap (λ m. m % 256) e₃ ∙ small a al) i ∷ ((ap (λ m. m % 256) e₂ ∙ low a b bl) i ∷ ((ap (λ m. m % 256) e₁ ∙ low₁) i ∷ (low₀ i ∷ []))))
   where
-  small : (x : ℕ) → x < 256 → x % 256 ≡ x
-  small x h = omega arith
+    small : (x : ℕ) → x < 256 → x % 256 ≡ x
+    small x h = omega arith
 
-  low : (x y : ℕ) → y < 256 → (x * 256 + y) % 256 ≡ y
-  low x y h = omega arith
+    low : (x y : ℕ) → y < 256 → (x * 256 + y) % 256 ≡ y
+    low x y h = omega arith
 
-  low₁ : (a * 65536 + b * 256 + c) % 256 ≡ c
-  low₁ = omega arith
+    low₁ : (a * 65536 + b * 256 + c) % 256 ≡ c
+    low₁ = omega arith
 
-  low₀ : (a * 16777216 + b * 65536 + c * 256 + d) % 256 ≡ d
-  low₀ = omega arith
+    low₀ : (a * 16777216 + b * 65536 + c * 256 + d) % 256 ≡ d
+    low₀ = omega arith

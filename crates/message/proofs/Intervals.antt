@@ -73,8 +73,7 @@ module _ (setup : Setup) where
   intervals-told p (i ∷ is) run =
       let here = interval-told p i (run .0) in
       let more = intervals-told (afterInterval p i) is (run .1) in
-      let above = all-weaker (λ j. i .site + 1 ≤ j .site) (λ j. i .site < j .site) (λ j h. omega arith) is (more .1) in
-      (
+      let above = all-weaker (λ j. i .site + 1 ≤ j .site) (λ j. i .site < j .site) (λ j h. omega arith) is (more .1) in (
         (here .0, more .0),
         (here .1, all-weaker (λ j. i .site < j .site) (λ j. p .«next_site» ≤ j .site) (λ j h. omega (arith, here .1)) is above),
         (all-map (λ y. i .site < y) (λ j. j .site) is above, more .2),
@@ -107,17 +106,17 @@ module _ (c time : ℕ) where
   carried-by p [] h = inr h
   carried-by p (i ∷ is) h = later (carried-by (afterInterval p i) is h)
     where
-    here : i .site ≡ c → carries (spanOf i) time ≡ true → CarriedBy (i ∷ is)
-    here same k = let parts = and-parts (ltb (i .from) time) _ k in (i, has-first i is, (same, ltb-true _ _ (parts .0), leb-true _ _ (parts .1)))
+      here : i .site ≡ c → carries (spanOf i) time ≡ true → CarriedBy (i ∷ is)
+      here same k = let parts = and-parts (ltb (i .from) time) _ k in (i, has-first i is, (same, ltb-true _ _ (parts .0), leb-true _ _ (parts .1)))
 
-    placed : (c ≡ i .site) ⊎ (c ≡ i .site → ⊥) → (i .site < length (p .spans)) ⊎ (length (p .spans) ≤ i .site) → carries (getD (set (p .spans) (i .site) (spanOf i)) c noSpan) time ≡ true → CarriedBy (i ∷ is) ⊎ (carries (getD (p .spans) c noSpan) time ≡ true)
-    placed (inl same) (inl within) k = inl (here (sym same) (ap (λ s. carries s time) (sym (ap (λ n. getD (set (p .spans) (i .site) (spanOf i)) n noSpan) same ∙ getD-set-same (p .spans) (i .site) (spanOf i) noSpan within)) ∙ k))
-    placed (inl same) (inr past) k = inr (ap (λ ss. carries (getD ss c noSpan) time) (sym (set-past (p .spans) (i .site) (spanOf i) past)) ∙ k)
-    placed (inr other) _ k = inr (ap (λ s. carries s time) (sym (getD-set-other (p .spans) (i .site) c (spanOf i) noSpan other)) ∙ k)
+      placed : (c ≡ i .site) ⊎ (c ≡ i .site → ⊥) → (i .site < length (p .spans)) ⊎ (length (p .spans) ≤ i .site) → carries (getD (set (p .spans) (i .site) (spanOf i)) c noSpan) time ≡ true → CarriedBy (i ∷ is) ⊎ (carries (getD (p .spans) c noSpan) time ≡ true)
+      placed (inl same) (inl within) k = inl (here (sym same) (ap (λ s. carries s time) (sym (ap (λ n. getD (set (p .spans) (i .site) (spanOf i)) n noSpan) same ∙ getD-set-same (p .spans) (i .site) (spanOf i) noSpan within)) ∙ k))
+      placed (inl same) (inr past) k = inr (ap (λ ss. carries (getD ss c noSpan) time) (sym (set-past (p .spans) (i .site) (spanOf i) past)) ∙ k)
+      placed (inr other) _ k = inr (ap (λ s. carries s time) (sym (getD-set-other (p .spans) (i .site) c (spanOf i) noSpan other)) ∙ k)
 
-    later : CarriedBy is ⊎ (carries (getD (afterInterval p i .spans) c noSpan) time ≡ true) → CarriedBy (i ∷ is) ⊎ (carries (getD (p .spans) c noSpan) time ≡ true)
-    later (inl (j, has, rest)) = inl (j, has-later i j is has, rest)
-    later (inr k) = placed (cases-eq c (i .site)) (cases-lt (i .site) (length (p .spans))) k
+      later : CarriedBy is ⊎ (carries (getD (afterInterval p i .spans) c noSpan) time ≡ true) → CarriedBy (i ∷ is) ⊎ (carries (getD (p .spans) c noSpan) time ≡ true)
+      later (inl (j, has, rest)) = inl (j, has-later i j is has, rest)
+      later (inr k) = placed (cases-eq c (i .site)) (cases-lt (i .site) (length (p .spans))) k
 
 -- intervals of later sites leave a site's span
 pub span-kept : (p : Progress) (is : List Interval) (c : ℕ) → All (λ i. c < i .site) is → getD (folded afterInterval p is .spans) c noSpan ≡ getD (p .spans) c noSpan

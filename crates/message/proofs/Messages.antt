@@ -119,8 +119,7 @@ module _ (kind : Meaning) (setup : Setup) where
       let due = sym (cond-true (ltb 0 (h .sections)) due.Section due.End (lt-ltb 0 (h .sections) (told .some))) in
       let ss = read-sections kind setup (h .sections) (afterHeader start h) e rs refl due (fits .1) (ap (λ q. folded (onward kind setup) (Some q) rs) (sym (t .4)) ∙ f .onto) end in
       let m : Message = record { group = h .group; kind = h .kind; sender = h .sender; sections = ss .sections } in
-      let same : headerOf m ≡ h = λ i. record { group = h .group; kind = h .kind; sender = h .sender; sections = ss .many i } in
-      (
+      let same : headerOf m ≡ h = λ i. record { group = h .group; kind = h .kind; sender = h .sender; sections = ss .many i } in (
         m,
         record { of-group = told .of-group; of-kind = told .of-kind; sent = told .sent; some = omega (arith, told .some, ss .many); few = omega (arith, told .few, ss .many); sections = ss .lawful; rising = ss .rising },
         λ i. (ap record-kinds.Header same ∙ sym (t .1)) i ∷ sym (ss .parts) i,

@@ -58,11 +58,11 @@ module _ (kind : Meaning) (setup : Setup) where
   pub first-on : (p e : Progress) (r : Record) (rs : List Record) → folded (onward kind setup) (Some p) (r ∷ rs) ≡ Some e → First p e r rs
   first-on p e r rs h = by-cases (isDue (p .due) r) refl (admitted kind setup p r) refl h
     where
-    by-cases : (b : Bool) → isDue (p .due) r ≡ b → (v : Verdict) → admitted kind setup p r ≡ v → folded (onward kind setup) (cond b (granted v) None) rs ≡ Some e → First p e r rs
-    by-cases true is (Passed q) so h = record { next = q; was-due = is; passes = so; onto = h }
-    by-cases true is Foreign so h = absurd (not-none e (sym (stuck rs) ∙ h))
-    by-cases true is Broken so h = absurd (not-none e (sym (stuck rs) ∙ h))
-    by-cases false is v so h = absurd (not-none e (sym (stuck rs) ∙ h))
+      by-cases : (b : Bool) → isDue (p .due) r ≡ b → (v : Verdict) → admitted kind setup p r ≡ v → folded (onward kind setup) (cond b (granted v) None) rs ≡ Some e → First p e r rs
+      by-cases true is (Passed q) so h = record { next = q; was-due = is; passes = so; onto = h }
+      by-cases true is Foreign so h = absurd (not-none e (sym (stuck rs) ∙ h))
+      by-cases true is Broken so h = absurd (not-none e (sym (stuck rs) ∙ h))
+      by-cases false is v so h = absurd (not-none e (sym (stuck rs) ∙ h))
 
   module _ (p q : Progress) where
     pub header-on : (r : Record) → isDue due.Header r ≡ true → admitted kind setup p r ≡ Passed q → (h : Header) × (r ≡ record-kinds.Header h) × (named kind setup h ≡ true) × (lawfulHeader setup h ≡ true) × (q ≡ afterHeader p h)

@@ -58,8 +58,8 @@ module _ (bs : List ℕ) (bytes : (i : ℕ) → getD bs i 0 < 256) where
   action-back long is =
       spread bs 0 16 long ∙ (λ j. is j ∷ (getD bs 1 0 ∷ (sym (four 2) j ++ (sym (four 6) j ++ (getD bs 10 0 ∷ (getD bs 11 0 ∷ (amount j ++ drop 16 bs)))))))
     where
-    amount : getD bs 12 0 ∷ (getD bs 13 0 ∷ (getD bs 14 0 ∷ (getD bs 15 0 ∷ []))) ≡ bytesOf 4 (ofZ w32 (toZ w32 (number4 bs 12)))
-    amount = sym (four 12) ∙ ap (bytesOf 4) (sym (ofZ-toZ w32 (number4 bs 12) (number4-lt 12)))
+      amount : getD bs 12 0 ∷ (getD bs 13 0 ∷ (getD bs 14 0 ∷ (getD bs 15 0 ∷ []))) ≡ bytesOf 4 (ofZ w32 (toZ w32 (number4 bs 12)))
+      amount = sym (four 12) ∙ ap (bytesOf 4) (sym (ofZ-toZ w32 (number4 bs 12) (number4-lt 12)))
 
   -- what a test for a kind byte and a length tells
   told : (kind size : ℕ) → begins kind size bs ≡ true → (size ≤ length bs) × (getD bs 0 0 ≡ kind)
@@ -114,6 +114,6 @@ module _ (bs : List ℕ) (bytes : (i : ℕ) → getD bs i 0 < 256) where
       subst (Back due.Action) (c .1) (refl, action-fits, action-back (t .0) (t .1))
   whole-back due.End r h = absurd (never (eqb (length bs) 0) h)
     where
-    never : (b : Bool) → cond b Finished Trailing ≡ Whole r → ⊥
-    never true e = let z : _≡_ {A = ℕ} 0 1 = cc in omega arith
-    never false e = let z : _≡_ {A = ℕ} 0 1 = cc in omega arith
+      never : (b : Bool) → cond b Finished Trailing ≡ Whole r → ⊥
+      never true e = let z : _≡_ {A = ℕ} 0 1 = cc in omega arith
+      never false e = let z : _≡_ {A = ℕ} 0 1 = cc in omega arith

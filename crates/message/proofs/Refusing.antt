@@ -87,7 +87,7 @@ header-due due.Action h is = absurd (false≢true is)
 header-due due.End h is = absurd (false≢true is)
 
 module _ (kind : Meaning) (setup : Setup) where
-  named-told : (h : Header) → named kind setup h ≡ true → Named kind setup h
+  pub named-told : (h : Header) → named kind setup h ≡ true → Named kind setup h
   named-told h e = let parts = and-parts (eqb (h .group) (setup .group)) _ e in (eqb-true _ _ (parts .0), eqb-true _ _ (parts .1))
 
   not-named : (h : Header) → named kind setup h ≡ false → Named kind setup h → ⊥
@@ -107,36 +107,36 @@ module _ (kind : Meaning) (setup : Setup) where
     pub reason : (at : ℕ) (rest : List ℕ) (why : Refusal) → ((i : ℕ) → getD rest i 0 < 256) → step kind setup p at rest ≡ refused why → Reason kind setup p at rest why
     reason at rest why bytes h = by-decoded (decoded (p .due) rest) refl h
       where
-      same-refusal : (r : Refusal) → refused r ≡ refused why → why ≡ r
-      same-refusal r e = cc
+        same-refusal : (r : Refusal) → refused r ≡ refused why → why ≡ r
+        same-refusal r e = cc
 
-      by-verdict : (r : Record) → decoded (p .due) rest ≡ Whole r → (v : Verdict) → admitted kind setup p r ≡ v → judged at r v ≡ refused why → Reason kind setup p at rest why
-      by-verdict r is (Passed q) so e = absurd (let z : _≡_ {A = ℕ} 0 1 = cc in omega arith)
-      by-verdict r is Foreign so e =
-          let back = whole-back rest bytes (p .due) r is in
-          let t = foreign-told r (back .0) so in
-          other-table (record { is = same-refusal _ e; first = t .2; header = t .0; fitting = subst Fitting (t .1) (back .1); starts = subst (StartsWith rest) (t .1) (drop (length (recordBytes r)) rest, back .2); other = t .3 })
-      by-verdict r is Broken so e =
-          let back = whole-back rest bytes (p .due) r is in
-          rule-broken (record { is = same-refusal _ e; broken = r; was-due = back .0; fitting = back .1; starts = (drop (length (recordBytes r)) rest, back .2); ours = broken-told r so; stops = ap (λ b. cond b (granted (admitted kind setup p r)) None) (back .0) ∙ ap granted so })
+        by-verdict : (r : Record) → decoded (p .due) rest ≡ Whole r → (v : Verdict) → admitted kind setup p r ≡ v → judged at r v ≡ refused why → Reason kind setup p at rest why
+        by-verdict r is (Passed q) so e = absurd (let z : _≡_ {A = ℕ} 0 1 = cc in omega arith)
+        by-verdict r is Foreign so e =
+            let back = whole-back rest bytes (p .due) r is in
+            let t = foreign-told r (back .0) so in
+            other-table (record { is = same-refusal _ e; first = t .2; header = t .0; fitting = subst Fitting (t .1) (back .1); starts = subst (StartsWith rest) (t .1) (drop (length (recordBytes r)) rest, back .2); other = t .3 })
+        by-verdict r is Broken so e =
+            let back = whole-back rest bytes (p .due) r is in
+            rule-broken (record { is = same-refusal _ e; broken = r; was-due = back .0; fitting = back .1; starts = (drop (length (recordBytes r)) rest, back .2); ours = broken-told r so; stops = ap (λ b. cond b (granted (admitted kind setup p r)) None) (back .0) ∙ ap granted so })
 
-      by-decoded : (d : Decoded) → decoded (p .due) rest ≡ d → stepped kind setup p at d ≡ refused why → Reason kind setup p at rest why
-      by-decoded (Whole r) is e = by-verdict r is (admitted kind setup p r) refl e
-      by-decoded Cut is e = let t = cut-told rest (p .due) is in no-record (record { is = same-refusal _ e; not-ended = t .0; none = t .1 })
-      by-decoded Finished is e = absurd (let z : _≡_ {A = ℕ} 0 1 = cc in omega arith)
-      by-decoded Trailing is e = let t = trailing-told rest (p .due) is in bytes-follow (record { is = same-refusal _ e; ended = t .0; more = t .1 })
+        by-decoded : (d : Decoded) → decoded (p .due) rest ≡ d → stepped kind setup p at d ≡ refused why → Reason kind setup p at rest why
+        by-decoded (Whole r) is e = by-verdict r is (admitted kind setup p r) refl e
+        by-decoded Cut is e = let t = cut-told rest (p .due) is in no-record (record { is = same-refusal _ e; not-ended = t .0; none = t .1 })
+        by-decoded Finished is e = absurd (let z : _≡_ {A = ℕ} 0 1 = cc in omega arith)
+        by-decoded Trailing is e = let t = trailing-told rest (p .due) is in bytes-follow (record { is = same-refusal _ e; ended = t .0; more = t .1 })
 
     -- a step that ended had the end due, and no bytes left
     pub ended-told : (at : ℕ) (rest : List ℕ) → step kind setup p at rest ≡ ended → (p .due ≡ due.End) × (rest ≡ [])
     ended-told at rest h = finished-told rest (p .due) (by-decoded (decoded (p .due) rest) h)
       where
-      by-verdict : (r : Record) (v : Verdict) → judged at r v ≡ ended → Whole r ≡ Finished
-      by-verdict r (Passed q) e = absurd (let z : _≡_ {A = ℕ} 0 1 = cc in omega arith)
-      by-verdict r Foreign e = absurd (let z : _≡_ {A = ℕ} 0 1 = cc in omega arith)
-      by-verdict r Broken e = absurd (let z : _≡_ {A = ℕ} 0 1 = cc in omega arith)
+        by-verdict : (r : Record) (v : Verdict) → judged at r v ≡ ended → Whole r ≡ Finished
+        by-verdict r (Passed q) e = absurd (let z : _≡_ {A = ℕ} 0 1 = cc in omega arith)
+        by-verdict r Foreign e = absurd (let z : _≡_ {A = ℕ} 0 1 = cc in omega arith)
+        by-verdict r Broken e = absurd (let z : _≡_ {A = ℕ} 0 1 = cc in omega arith)
 
-      by-decoded : (d : Decoded) → stepped kind setup p at d ≡ ended → d ≡ Finished
-      by-decoded (Whole r) e = by-verdict r (admitted kind setup p r) e
-      by-decoded Cut e = absurd (let z : _≡_ {A = ℕ} 0 1 = cc in omega arith)
-      by-decoded Finished e = refl
-      by-decoded Trailing e = absurd (let z : _≡_ {A = ℕ} 0 1 = cc in omega arith)
+        by-decoded : (d : Decoded) → stepped kind setup p at d ≡ ended → d ≡ Finished
+        by-decoded (Whole r) e = by-verdict r (admitted kind setup p r) e
+        by-decoded Cut e = absurd (let z : _≡_ {A = ℕ} 0 1 = cc in omega arith)
+        by-decoded Finished e = refl
+        by-decoded Trailing e = absurd (let z : _≡_ {A = ℕ} 0 1 = cc in omega arith)

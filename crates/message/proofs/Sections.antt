@@ -52,9 +52,9 @@ all-both P Q R f (x ∷ xs) h k = (f x (h .0) (k .0), all-both P Q R f xs (h .1)
 no-span : (c : ℕ) → getD noSpans c noSpan ≡ noSpan
 no-span c = by-place (cases-lt c 8)
   where
-  by-place : (c < 8) ⊎ (8 ≤ c) → getD noSpans c noSpan ≡ noSpan
-  by-place (inl within) = getD-replicate 8 c noSpan noSpan within
-  by-place (inr past) = getD-past noSpans c noSpan past
+    by-place : (c < 8) ⊎ (8 ≤ c) → getD noSpans c noSpan ≡ noSpan
+    by-place (inl within) = getD-replicate 8 c noSpan noSpan within
+    by-place (inr past) = getD-past noSpans c noSpan past
 
 none-carried : (c time : ℕ) → carries (getD noSpans c noSpan) time ≡ true → ⊥
 none-carried c time h =
@@ -131,9 +131,9 @@ module _ (kind : Meaning) (setup : Setup) (p : Progress) (s : Section) where
     four-bytes = fits .amount;
   }
     where
-    by-place : CarriedBy (x .coordinator) (x .time) (s .intervals) ⊎ (carries (getD noSpans (x .coordinator) noSpan) (x .time) ≡ true) → CarriedBy (x .coordinator) (x .time) (s .intervals)
-    by-place (inl c) = c
-    by-place (inr h) = absurd (none-carried (x .coordinator) (x .time) h)
+      by-place : CarriedBy (x .coordinator) (x .time) (s .intervals) ⊎ (carries (getD noSpans (x .coordinator) noSpan) (x .time) ≡ true) → CarriedBy (x .coordinator) (x .time) (s .intervals)
+      by-place (inl c) = c
+      by-place (inr h) = absurd (none-carried (x .coordinator) (x .time) h)
 
   lawful-fair : LawfulSection kind setup s → (x : Action) → LawfulAction kind s x → Fair kind (s .article) (afterIntervals p (headOf s) (s .intervals) .spans) x
   lawful-fair l x a = record {
@@ -144,10 +144,10 @@ module _ (kind : Meaning) (setup : Setup) (p : Progress) (s : Section) where
     known = a .known;
   }
     where
-    in-span : CarriedBy (x .coordinator) (x .time) (s .intervals) → carries (getD (afterIntervals p (headOf s) (s .intervals) .spans) (x .coordinator) noSpan) (x .time) ≡ true
-    in-span (i, (k, within, at), (same, after, upto)) =
-        let is = span-set (afterSection p (headOf s)) (s .intervals) i k within (at i) (l .rising) (all-weaker (LawfulInterval setup) (λ j. j .site < 8) (λ j h. omega (arith, h .of-group, setup .«few_sites»)) (s .intervals) (l .intervals)) in
-        ap (λ t. carries t (x .time)) (ap (λ n. getD (afterIntervals p (headOf s) (s .intervals) .spans) n noSpan) (sym same) ∙ is) ∙ and-from _ _ (lt-ltb _ _ after) (le-leb _ _ upto)
+      in-span : CarriedBy (x .coordinator) (x .time) (s .intervals) → carries (getD (afterIntervals p (headOf s) (s .intervals) .spans) (x .coordinator) noSpan) (x .time) ≡ true
+      in-span (i, (k, within, at), (same, after, upto)) =
+          let is = span-set (afterSection p (headOf s)) (s .intervals) i k within (at i) (l .rising) (all-weaker (LawfulInterval setup) (λ j. j .site < 8) (λ j h. omega (arith, h .of-group, setup .«few_sites»)) (s .intervals) (l .intervals)) in
+          ap (λ t. carries t (x .time)) (ap (λ n. getD (afterIntervals p (headOf s) (s .intervals) .spans) n noSpan) (sym same) ∙ is) ∙ and-from _ _ (lt-ltb _ _ after) (le-leb _ _ upto)
 
   -- the tests along a section's records say that it is lawful
   pub section-lawful : lawfulSection setup p (headOf s) ≡ true → Run (lawfulInterval setup) afterInterval (afterSection p (headOf s)) (s .intervals) → Run (lawfulAction kind) afterAction (afterIntervals p (headOf s) (s .intervals)) (s .actions) → SectionFits (headOf s) → All ActionFits (s .actions) → LawfulSection kind setup s

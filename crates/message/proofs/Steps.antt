@@ -40,10 +40,10 @@ no-step r x p h = absurd (let z : _≡_ {A = ℕ} 0 1 = cc in omega arith)
 pub found-record : (kind : Meaning) (setup : Setup) (p q : Progress) (at : ℕ) (r : Record) (d : Decoded) → stepped kind setup p at d ≡ found r q → (d ≡ Whole r) × (admitted kind setup p r ≡ Passed q)
 found-record kind setup p q at r (Whole x) h = by-verdict (admitted kind setup p x) refl h
   where
-  by-verdict : (v : Verdict) → admitted kind setup p x ≡ v → judged at x v ≡ found r q → (Whole x ≡ Whole r) × (admitted kind setup p r ≡ Passed q)
-  by-verdict (Passed s) is e = let same : x ≡ r = cc in let next : s ≡ q = cc in (ap Whole same, ap (admitted kind setup p) (sym same) ∙ is ∙ ap Passed next)
-  by-verdict Foreign is e = no-step _ r q e
-  by-verdict Broken is e = no-step _ r q e
+    by-verdict : (v : Verdict) → admitted kind setup p x ≡ v → judged at x v ≡ found r q → (Whole x ≡ Whole r) × (admitted kind setup p r ≡ Passed q)
+    by-verdict (Passed s) is e = let same : x ≡ r = cc in let next : s ≡ q = cc in (ap Whole same, ap (admitted kind setup p) (sym same) ∙ is ∙ ap Passed next)
+    by-verdict Foreign is e = no-step _ r q e
+    by-verdict Broken is e = no-step _ r q e
 found-record kind setup p q at r Cut h = no-step _ r q h
 found-record kind setup p q at r Finished h = absurd (let z : _≡_ {A = ℕ} 0 1 = cc in omega arith)
 found-record kind setup p q at r Trailing h = no-step _ r q h

@@ -1,5 +1,5 @@
 ghost use mathlib.Core.Path.{_≡_};
-ghost use Rattle.message.specs.Checks.{Accepted, Refused};
+ghost use Rattle.message.specs.Checks.{Accepted, Accepts, Longest, Refused, Unique};
 ghost use Rattle.message.specs.Reading.{Scanned, isAction};
 use crate::cursor::Reader;
 use crate::faults::ReaderFault;
@@ -34,7 +34,10 @@ fn scan<K: Kind>(setup: Setup, bytes: &[u8]) -> Result<usize, ReaderFault>
 // the first fault.
 pub fn check<K: Kind>(setup: Setup, bytes: &[u8]) -> Result<usize, ReaderFault>
     ensures accepted { λ r. ⌜ Accepted means setup (now (bytes .entry)) r ⌝ }
+    ensures accepts { λ r. ⌜ Accepts means setup (now (bytes .entry)) r ⌝ }
+    ensures unique { λ _. ⌜ Unique means setup (now (bytes .entry)) ⌝ }
     ensures refused { λ r. ⌜ Refused means setup (now (bytes .entry)) r ⌝ }
+    ensures longest { λ r. ⌜ Longest means setup (now (bytes .entry)) r ⌝ }
 {
     scan::<K>(setup, bytes)
 }

@@ -1,6 +1,7 @@
 ghost use mathlib.Core.Path.{_≡_};
 ghost use Rattle.message.specs.Faults.{shown};
-use action::{Layer, Refusal};
+use action::Layer;
+use action::Refusal;
 
 // Why bytes are not a message for this table.
 #[derive(Clone, Copy, Debug, PartialEq, Eq)]

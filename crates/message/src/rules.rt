@@ -2,9 +2,17 @@ ghost use mathlib.Core.Path.{_≡_};
 ghost use lib.ListN.{getD};
 ghost use Rattle.message.specs.declared.records.Record.the-variants.{Header as HeaderRecord, Section as SectionRecord, Interval as IntervalRecord, Action as ActionRecord};
 ghost use Rattle.message.specs.Progress.{admitted, dueAfter, lawfulAction, lawfulHeader, lawfulInterval, lawfulSection, named, noSpan};
-use crate::reading::{Due, Progress, Span, Verdict};
-use crate::records::{Header, Interval, Record, SectionHead};
-use action::{Action, LATEST_TIME, Setup};
+use crate::reading::Due;
+use crate::reading::Progress;
+use crate::reading::Span;
+use crate::reading::Verdict;
+use crate::records::Header;
+use crate::records::Interval;
+use crate::records::Record;
+use crate::records::SectionHead;
+use action::Action;
+use action::LATEST_TIME;
+use action::Setup;
 use kind::Kind;
 
 // What is due where so many intervals, actions and sections are to come.

@@ -19,8 +19,7 @@ loop-found-holds g c =
     let reader = c .new-reader .result in
     let bytes = c .args .bytes .now in
     let start = begun-none kind (reader .setup) bytes (λ i. c .typed .bytes i .fits) in
-    let e = c .new-reader .ensures in
-    (
+    let e = c .new-reader .ensures in (
       refl,
       e .bytes,
       omega arith,
@@ -36,8 +35,7 @@ loop-found-again-then-is-action g c =
     let f = c .in-Some .found in
     let bytes = c .args .bytes .now in
     let next = subst (λ o. Next kind (reader .setup) (reader .progress) (reader .at) (reader .bytes .now) (Ok o) (last .progress) (last .at)) (c .in-Some .is) (c .in-Continue-found .ensures tt .does) in
-    let more = read-more kind (c .new-reader .result .setup) bytes (λ i. c .typed .bytes i .fits) (reader .setup) (inv .0) (reader .bytes .now) (inv .1) (reader .at) (last .at) (reader .progress) (last .progress) f (inv .3 .0) next in
-    (
+    let more = read-more kind (c .new-reader .result .setup) bytes (λ i. c .typed .bytes i .fits) (reader .setup) (inv .0) (reader .bytes .now) (inv .1) (reader .at) (last .at) (reader .progress) (last .progress) f (inv .3 .0) next in (
       c .next .ensures .setup ∙ inv .0,
       c .next .ensures .bytes ∙ inv .1,
       omega (arith, next .2, record-size (f .«record»)),
@@ -53,8 +51,7 @@ loop-found-again g c =
     let f = c .in-Some .found in
     let bytes = c .args .bytes .now in
     let next = subst (λ o. Next kind (reader .setup) (reader .progress) (reader .at) (reader .bytes .now) (Ok o) (last .progress) (last .at)) (c .in-Some .is) (c .in-Continue-found .ensures tt .does) in
-    let more = read-more kind (c .new-reader .result .setup) bytes (λ i. c .typed .bytes i .fits) (reader .setup) (inv .0) (reader .bytes .now) (inv .1) (reader .at) (last .at) (reader .progress) (last .progress) f (inv .3 .0) next in
-    (
+    let more = read-more kind (c .new-reader .result .setup) bytes (λ i. c .typed .bytes i .fits) (reader .setup) (inv .0) (reader .bytes .now) (inv .1) (reader .at) (last .at) (reader .progress) (last .progress) f (inv .3 .0) next in (
       c .next .ensures .setup ∙ inv .0,
       c .next .ensures .bytes ∙ inv .1,
       omega (arith, next .2),
