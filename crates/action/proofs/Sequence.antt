@@ -30,14 +30,14 @@ leads-kept : (p : Action → Bool) (x : Action) (ys : List Action) → Leads x y
 leads-kept p x [] h = tt
 leads-kept p x (y ∷ ys) h = by-test (leads-kept p x ys (h .1)) (p y)
   where
-  by-test : Leads x (kept-by p ys) → (b : Bool) → Leads x (cond b (y ∷ kept-by p ys) (kept-by p ys))
-  by-test rest true = (h .0, rest)
-  by-test rest false = rest
+    by-test : Leads x (kept-by p ys) → (b : Bool) → Leads x (cond b (y ∷ kept-by p ys) (kept-by p ys))
+    by-test rest true = (h .0, rest)
+    by-test rest false = rest
 
 pub ascending-kept : (p : Action → Bool) (xs : List Action) → Ascending xs → Ascending (kept-by p xs)
 ascending-kept p [] h = tt
 ascending-kept p (x ∷ xs) h = by-test (ascending-kept p xs (h .1)) (p x)
   where
-  by-test : Ascending (kept-by p xs) → (b : Bool) → Ascending (cond b (x ∷ kept-by p xs) (kept-by p xs))
-  by-test rest true = (leads-kept p x xs (h .0), rest)
-  by-test rest false = rest
+    by-test : Ascending (kept-by p xs) → (b : Bool) → Ascending (cond b (x ∷ kept-by p xs) (kept-by p xs))
+    by-test rest true = (leads-kept p x xs (h .0), rest)
+    by-test rest false = rest

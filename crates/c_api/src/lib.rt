@@ -24,7 +24,13 @@ fn actions_of<K: Kind>(setup: Setup, message: &[u8]) -> i64
 // How many actions the message carries, for the tables of a group and a kind; minus 1 for a set-up
 // outside its limits or a kind that is not here, or minus the number of the reader's refusal.
 #[unsafe(no_mangle)]
-pub extern "C" fn site_message_actions(message: &[u8], group: u32, kind: u32, sites: u32, articles: u32) -> i64
+pub extern "C" fn site_message_actions(
+    message: &[u8],
+    group: u32,
+    kind: u32,
+    sites: u32,
+    articles: u32,
+) -> i64
     ensures { λ r. ⌜ Answered (now (message .entry)) group kind sites articles r ⌝ }
 {
     let Ok(setup) = Setup::new(group, sites, 0, articles) else {

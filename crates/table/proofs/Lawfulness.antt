@@ -103,15 +103,15 @@ module _ (kind : Meaning) (v : View) (s : Sound kind v) where
   told : (a : ℕ) → All (Pending a) pending
   told a =
       all-from-getD (Pending a) pending noAction (λ i lt.
-          let w = s .waiting in
-          let times = all-getD (λ x. (v .clock + 0 < x .time) × (x .time ≤ v .clock + 0 + length pending)) pending i noAction lt (waiting-times kind (v .setup) (v .clock) 0 pending w) in
-          record {
-            fitting = all-getD (Fitting kind (v .setup)) pending i noAction lt (waiting-fitting kind (v .setup) (v .clock) 0 pending w);
-            own-site = all-getD (λ x. x .coordinator ≡ mine) pending i noAction lt (waiting-own kind (v .setup) (v .clock) 0 pending w);
-            later = omega (arith, times .0);
-            in-time = omega (arith, times .1);
-            latest-on = all-getD (λ x. x .article ≡ a → x .time ≤ latest a pending) pending i noAction lt (latest-ge a pending);
-          })
+      let w = s .waiting in
+      let times = all-getD (λ x. (v .clock + 0 < x .time) × (x .time ≤ v .clock + 0 + length pending)) pending i noAction lt (waiting-times kind (v .setup) (v .clock) 0 pending w) in
+      record {
+        fitting = all-getD (Fitting kind (v .setup)) pending i noAction lt (waiting-fitting kind (v .setup) (v .clock) 0 pending w);
+        own-site = all-getD (λ x. x .coordinator ≡ mine) pending i noAction lt (waiting-own kind (v .setup) (v .clock) 0 pending w);
+        later = omega (arith, times .0);
+        in-time = omega (arith, times .1);
+        latest-on = all-getD (λ x. x .article ≡ a → x .time ≤ latest a pending) pending i noAction lt (latest-ge a pending);
+      })
 
   latest-in-time : (a : ℕ) → latest a pending ≤ v .clock + length pending
   latest-in-time a = latest-le (v .clock + length pending) a pending (all-weaker (Pending a) (λ x. x .time ≤ v .clock + length pending) (λ x h. h .in-time) pending (told a))

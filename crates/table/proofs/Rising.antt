@@ -35,9 +35,9 @@ pub rising-kept : (p : ℕ → Bool) (xs : List ℕ) → Rising xs → Rising (k
 rising-kept p [] h = tt
 rising-kept p (x ∷ xs) h = by-test (rising-kept p xs (h .1)) (p x)
   where
-  by-test : Rising (kept-by p xs) → (b : Bool) → Rising (cond b (x ∷ kept-by p xs) (kept-by p xs))
-  by-test rest true = (all-kept-by p (λ y. x < y) xs (h .0), rest)
-  by-test rest false = rest
+    by-test : Rising (kept-by p xs) → (b : Bool) → Rising (cond b (x ∷ kept-by p xs) (kept-by p xs))
+    by-test rest true = (all-kept-by p (λ y. x < y) xs (h .0), rest)
+    by-test rest false = rest
 
 -- a function that is undone
 pub map-back : {X Y : Type 0} (f : X → Y) (g : Y → X) → ((x : X) → g (f x) ≡ x) → (xs : List X) → map g (map f xs) ≡ xs

@@ -43,9 +43,9 @@ count-step k (x ∷ xs) =
     let a = x .article in
     sumBy-cons (λ x. cond (ltb (x .article) (suc k)) 1 0) x xs ∙ omega (arith, one-step a k, count-step k xs, sumBy-cons (λ x. cond (ltb (x .article) k) 1 0) x xs, on-length (eqb a k) refl)
   where
-  on-length : (b : Bool) → eqb (x .article) k ≡ b → length (on k (x ∷ xs)) ≡ cond {A = ℕ} (eqb (x .article) k) 1 0 + length (on k xs)
-  on-length true e = ap (λ t. length (cond t (x ∷ on k xs) (on k xs))) e ∙ sym (ap (λ t. cond {A = ℕ} t 1 0 + length (on k xs)) e ∙ omega arith)
-  on-length false e = ap (λ t. length (cond t (x ∷ on k xs) (on k xs))) e ∙ sym (ap (λ t. cond {A = ℕ} t 1 0 + length (on k xs)) e ∙ omega arith)
+    on-length : (b : Bool) → eqb (x .article) k ≡ b → length (on k (x ∷ xs)) ≡ cond {A = ℕ} (eqb (x .article) k) 1 0 + length (on k xs)
+    on-length true e = ap (λ t. length (cond t (x ∷ on k xs) (on k xs))) e ∙ sym (ap (λ t. cond {A = ℕ} t 1 0 + length (on k xs)) e ∙ omega arith)
+    on-length false e = ap (λ t. length (cond t (x ∷ on k xs) (on k xs))) e ∙ sym (ap (λ t. cond {A = ℕ} t 1 0 + length (on k xs)) e ∙ omega arith)
 
 module _ (v : View) where
   -- the articles below k that were written

@@ -97,7 +97,12 @@ impl<K: Kind, H: History> Table<K, H> {
         Ok(at)
     }
 
-    pub(crate) fn write_offer(&self, peer: u8, article: u8, buffer: &mut [u8]) -> Result<usize, TableFault>
+    pub(crate) fn write_offer(
+        &self,
+        peer: u8,
+        article: u8,
+        buffer: &mut [u8],
+    ) -> Result<usize, TableFault>
         ensures { λ r. ⌜ Offered means (view items room (now (self .entry))) peer article (now (buffer .entry)) r (now (buffer .exit)) ⌝ }
     {
         let setup = self.state.setup;
