@@ -13,6 +13,8 @@
 //! second messages SEED COUNT DIR
 //!     Makes DIR/messages.bin, the messages back to back, and DIR/expected.txt with one line for each:
 //!     index, group, kind, sites, articles, length, answer, place.
+//! second bench DIR ROUNDS
+//!     Reads the messages in DIR so many times and prints how fast that was.
 //! second selftest
 //!     Checks the worked examples of the documents, and the makers against the reader and the tables.
 //!
@@ -21,6 +23,7 @@
 
 #![forbid(unsafe_code)]
 
+mod bench;
 mod cases;
 mod damage_actions;
 mod damage_heads;
@@ -51,6 +54,7 @@ const USAGE: &str = "usage: second script [--without-taking] < SCRIPT
        second scripts SEED COUNT DIR [--without-taking]
        second read GROUP KIND SITES ARTICLES < MESSAGE
        second messages SEED COUNT DIR
+       second bench DIR ROUNDS
        second selftest";
 
 enum Command {
@@ -73,6 +77,10 @@ enum Command {
         seed: u64,
         count: usize,
         dir: PathBuf,
+    },
+    Bench {
+        dir: PathBuf,
+        rounds: u32,
     },
     Selftest,
 }
@@ -106,6 +114,10 @@ impl Command {
                 seed: seed.parse().ok()?,
                 count: count.parse().ok()?,
                 dir: dir.into(),
+            },
+            ["bench", dir, rounds] => Command::Bench {
+                dir: dir.into(),
+                rounds: rounds.parse().ok()?,
             },
             ["selftest"] => Command::Selftest,
             _ => return None,
@@ -146,6 +158,7 @@ impl Command {
             Command::Messages { seed, count, dir } => {
                 Ok(makers::messages(seed, count, &dir)?.into_bytes())
             }
+            Command::Bench { dir, rounds } => Ok(bench::messages(&dir, rounds)?.into_bytes()),
             Command::Selftest => Ok(selftest::run()?.into_bytes()),
         }
     }
