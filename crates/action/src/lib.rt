@@ -1,5 +1,7 @@
 // What every other crate of the site tables speaks of: actions and their order, the set-up of a
 // group, the limits, and how a refusal is shown.
+#![tactic(auto)]
+
 mod limits;
 mod makes;
 mod orders;

@@ -1,4 +1,6 @@
 // The one call for C.
+#![tactic(auto)]
+
 ghost use Rattle.std.specs.Prelude.{◌≡◌};
 ghost use Rattle.c_api.specs.Call.{Answered, Checked};
 

@@ -1,4 +1,6 @@
 // The worked examples: a table that is proved of the definitions, and run by the code.
+#![tactic(auto)]
+
 ghost use Rattle.std.specs.Prelude.{◌≡◌, true, map};
 ghost use Rattle.std.specs.List.{AllByRecursion as All};
 ghost use Rattle.kind.specs.Working.{working};

@@ -1,4 +1,6 @@
 // Histories: the actions that a table keeps, behind one interface with two ways to keep them.
+#![tactic(auto)]
+
 mod faults;
 mod interface;
 mod racks;

@@ -1,4 +1,6 @@
 // Kinds of figure: what a table keeps for each article, behind one trait.
+#![tactic(auto)]
+
 mod flags;
 mod interface;
 mod on_hand;

@@ -1,4 +1,6 @@
 // Messages between the sites of a group: their four records, and the writing and reading of them.
+#![tactic(auto)]
+
 mod checks;
 mod cursor;
 mod decodes;

@@ -1,6 +1,8 @@
 // The pace: does the work that each line of standard input names so many times, and prints a sum of all
 // answers, a sum of the bytes of the messages, and the figures at the end. What it takes is measured from
 // outside (scripts/pace). The output that is expected of it is the second program's.
+#![tactic(auto)]
+
 mod bags;
 mod histories;
 mod jobs;

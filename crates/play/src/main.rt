@@ -4,6 +4,8 @@
 //
 // A run cannot meet every refusal: 1 is that of a set-up, 17 that of a history, 18 that of a script, and 8 needs
 // a clock near 4,000,000,000, which a run that starts at 0 does not reach. All others are met.
+#![tactic(auto)]
+
 mod books;
 mod calls;
 mod chances;

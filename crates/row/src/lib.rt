@@ -1,5 +1,7 @@
 // What a table keeps of each article, and the passes over its rows, its history and a message that a
 // table's calls are made of.
+#![tactic(auto)]
+
 mod archives;
 mod intervals;
 mod places;

@@ -1,4 +1,6 @@
 // The line language of the tally: three sites of one group, driven by lines of text.
+#![tactic(auto)]
+
 mod acts;
 mod answers;
 mod commands;

@@ -1,4 +1,6 @@
 // The tally: runs a script from standard input on a new desk, and prints what its lines answer.
+#![tactic(auto)]
+
 ghost use Rattle.std.specs.Prelude.{◌≤◌, length, IfOk};
 
 use kind::OnHand;
