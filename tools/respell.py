@@ -127,6 +127,11 @@ def main(root):
             if word in foreign or word not in own:
                 return word
             before = text[: m.start()]
+            line = before[before.rfind("\n") + 1 :].lstrip()
+            if line.startswith(("-- ", "// ")):
+                return word
+            if word in aliases and (before.endswith(".") or not (text[m.end() : m.end() + 1] == "." or before.endswith(" as "))):
+                return word
             if before.endswith(("goal.", "Goals.", "Given.")) or re.search(r"(?<![\w])c\.$", before):
                 return word
             return own[word]

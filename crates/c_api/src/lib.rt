@@ -10,7 +10,7 @@ use message::check;
 
 // The check's count of actions, or minus the number of its refusal.
 fn actions_of<K: Kind>(setup: Setup, message: &[u8]) -> i64
-    ensures { Checked means setup message.now result }
+    ensures { Checked K.means setup message.now result }
 {
     match check::<K>(setup, message) {
         Ok(actions) => actions as i64,

@@ -11,7 +11,7 @@ use kind::{Flags, Kind, OnHand, Price};
 
 // Works the moves, each an operation and an amount, from the figure on.
 fn worked<K: Kind>(start: i64, moves: &[(u8, i32)]) -> i64
-    ensures { result ≡ working means.steps start (map doing moves.now) }
+    ensures { result ≡ working K.means.steps start (map doing moves.now) }
 {
     let mut figure = start;
     for (operation, amount) in moves {

@@ -23,11 +23,11 @@ use Rattle.message.proofs.Stretches.{Run, Stretch}
 
 -- THE STRETCH
 
--- no interval is Due
+-- no interval is due
 abbrev pub ActionsReady : Progress → Type 0
-ActionsReady p = p.Due ≡ due_after 0 p.actions p.sections
+ActionsReady p = p.due ≡ due_after 0 p.actions p.sections
 
-pub due_action : (p : Progress) → ActionsReady p → 1 ≤ p.actions → p.Due ≡ Due.Action
+pub due_action : (p : Progress) → ActionsReady p → 1 ≤ p.actions → p.due ≡ Due.Action
 due_action p so some = so ∙ cond-true (ltb 0 p.actions) Due.Action (cond (ltb 0 p.sections) Due.Section Due.End) (lt-ltb 0 p.actions some)
 
 module _ (kind : Meaning) (setup : Setup) where

@@ -34,7 +34,7 @@ Begins rs qs = (ts : List Record) × (qs ≡ rs ++ ts)
 
 -- ONE RECORD
 
--- bytes start with one record at most of the kind Due
+-- bytes start with one record at most of the kind due
 pub same_record : (d : Due) (r q : Record) (bs : List ℕ) → is_due d r ≡ true → is_due d q ≡ true → Fitting r → Fitting q → StartsWith bs r → StartsWith bs q → r ≡ q
 same_record d r q bs is so f g s t =
     let e : Whole r ≡ Whole q = sym (decoded_format s.0 d r is f) ∙ ap (decoded d) (sym s.1 ∙ t.1) ∙ decoded_format t.0 d q so g in
@@ -54,7 +54,7 @@ module _ (kind : Meaning) (setup : Setup) where
       let a = first_on kind setup p e r rs h in
       let b = first_on kind setup p f q qs k in
       let bytes = sym (starts r rs more) ∙ same ∙ starts q qs less in
-      let one : r ≡ q = same_record p.Due r q (record_bytes r ++ (flat_map record_bytes rs ++ more)) a.was_due b.was_due fit.0 git.0 (flat_map record_bytes rs ++ more, refl) (flat_map record_bytes qs ++ less, bytes) in
+      let one : r ≡ q = same_record p.due r q (record_bytes r ++ (flat_map record_bytes rs ++ more)) a.was_due b.was_due fit.0 git.0 (flat_map record_bytes rs ++ more, refl) (flat_map record_bytes qs ++ less, bytes) in
       let next : Passed a.next ≡ Passed b.next = sym a.passes ∙ ap (admitted kind setup p) one ∙ b.passes in
       let on : b.next ≡ a.next = cc in
       let rest = append_cancel_left (record_bytes r) (flat_map record_bytes rs ++ more) (flat_map record_bytes qs ++ less) (bytes ∙ ap (λ x. record_bytes x ++ (flat_map record_bytes qs ++ less)) (sym one)) in
@@ -69,19 +69,19 @@ module _ (kind : Meaning) (setup : Setup) where
   after_beginning rs ts p e h k = ap (λ o. fold (onward kind setup) o ts) (sym h) ∙ sym (folded_append (onward kind setup) (Some start) rs ts) ∙ k
 
   -- nothing leads on from the end
-  pub at_the_end : (p e : Progress) (ts : List Record) → p.Due ≡ Due.End → fold (onward kind setup) (Some p) ts ≡ Some e → ts ≡ []
+  pub at_the_end : (p e : Progress) (ts : List Record) → p.due ≡ Due.End → fold (onward kind setup) (Some p) ts ≡ Some e → ts ≡ []
   at_the_end p e [] is h = refl
   at_the_end p e (t ∷ ts) is h = absurd (false≢true (ap (λ d. is_due d t) (sym is) ∙ (first_on kind setup p e t ts h).was_due))
 
   -- REFUSALS
 
   -- the rest of refused bytes starts with no record that leads on
-  pub no_further : (p q : Progress) (at : ℕ) (rest : List ℕ) (why : Refusal) (r : Record) → Reason kind setup p at rest why → is_due p.Due r ≡ true → admitted kind setup p r ≡ Passed q → Fitting r → StartsWith rest r → ⊥
+  pub no_further : (p q : Progress) (at : ℕ) (rest : List ℕ) (why : Refusal) (r : Record) → Reason kind setup p at rest why → is_due p.due r ≡ true → admitted kind setup p r ≡ Passed q → Fitting r → StartsWith rest r → ⊥
   no_further p q at rest why r (no_record n) is so fits s = n.none r is fits s
   no_further p q at rest why r (other_table o) is so fits s =
       let head = RecordKinds.Header o.header in
       let header_due = ap (λ d. is_due d head) o.first in
-      let same = same_record p.Due r head rest is header_due fits o.fitting s o.starts in
+      let same = same_record p.due r head rest is header_due fits o.fitting s o.starts in
       let t = header_on kind setup p q head refl (ap (admitted kind setup p) (sym same) ∙ so) in
       let is-it : o.header ≡ t.0 = headers o.header t.0 t.1 in
       o.other (named_told kind setup o.header (ap (named kind setup) is-it ∙ t.2))
@@ -89,7 +89,7 @@ module _ (kind : Meaning) (setup : Setup) where
       headers : (g h : Header) → RecordKinds.Header g ≡ RecordKinds.Header h → g ≡ h
       headers g h e = cc
   no_further p q at rest why r (rule_broken b) is so fits s =
-      let same = same_record p.Due r b.broken rest is b.was_due fits b.fitting s b.starts in
+      let same = same_record p.due r b.broken rest is b.was_due fits b.fitting s b.starts in
       not_none q (sym b.stops ∙ ap (onward kind setup (Some p)) (sym same) ∙ onward_passes kind setup p q r is so)
   no_further p q at rest why r (bytes_follow f) is so fits s = false≢true (ap (λ d. is_due d r) (sym f.ended) ∙ is)
 
@@ -107,7 +107,7 @@ module _ (kind : Meaning) (setup : Setup) where
           let rest-is = append_cancel_left (flat_map record_bytes rs) rest _ (sym b.front ∙ c.front ∙ cut) in
           absurd (no_further p f.next at rest why t reason f.was_due f.passes fits (flat_map record_bytes ts ++ less, rest-is ∙ starts t ts less))
 
--- a header is Due at the start only
+-- a header is due at the start only
 no_header : (intervals actions sections : ℕ) → due_after intervals actions sections ≡ Due.Header → ⊥
 no_header intervals actions sections h = by_tests (ltb 0 intervals) (ltb 0 actions) (ltb 0 sections) h
   where
@@ -118,18 +118,18 @@ no_header intervals actions sections h = by_tests (ltb 0 intervals) (ltb 0 actio
     by_tests false false false e = let z : ◌≡◌ {A = ℕ} 0 1 = cc in omega arith
 
 module _ (kind : Meaning) (setup : Setup) where
-  after_one : (p q : Progress) (r : Record) (d : Due) → is_due d r ≡ true → admitted kind setup p r ≡ Passed q → q.Due ≡ Due.Header → ⊥
-  after_one p q r Due.Header is so h = let t = header_on kind setup p q r is so in let e : Due.Section ≡ Due.Header = ap (λ x. x.Due) (sym t.4) ∙ h in let z : ◌≡◌ {A = ℕ} 0 1 = cc in omega arith
-  after_one p q r Due.Section is so h = let t = section_on kind setup p q r is so in let e : Due.Interval ≡ Due.Header = ap (λ x. x.Due) (sym t.3) ∙ h in let z : ◌≡◌ {A = ℕ} 0 1 = cc in omega arith
-  after_one p q r Due.Interval is so h = let t = interval_on kind setup p q r is so in no_header (p.intervals - 1) p.actions p.sections (ap (λ x. x.Due) (sym t.3) ∙ h)
-  after_one p q r Due.Action is so h = let t = action_on kind setup p q r is so in no_header 0 (p.actions - 1) p.sections (ap (λ x. x.Due) (sym t.3) ∙ h)
+  after_one : (p q : Progress) (r : Record) (d : Due) → is_due d r ≡ true → admitted kind setup p r ≡ Passed q → q.due ≡ Due.Header → ⊥
+  after_one p q r Due.Header is so h = let t = header_on kind setup p q r is so in let e : Due.Section ≡ Due.Header = ap (λ x. x.due) (sym t.4) ∙ h in let z : ◌≡◌ {A = ℕ} 0 1 = cc in omega arith
+  after_one p q r Due.Section is so h = let t = section_on kind setup p q r is so in let e : Due.Interval ≡ Due.Header = ap (λ x. x.due) (sym t.3) ∙ h in let z : ◌≡◌ {A = ℕ} 0 1 = cc in omega arith
+  after_one p q r Due.Interval is so h = let t = interval_on kind setup p q r is so in no_header (p.intervals - 1) p.actions p.sections (ap (λ x. x.due) (sym t.3) ∙ h)
+  after_one p q r Due.Action is so h = let t = action_on kind setup p q r is so in no_header 0 (p.actions - 1) p.sections (ap (λ x. x.due) (sym t.3) ∙ h)
   after_one p q r Due.End is so h = false≢true is
 
-  after_some : (p e : Progress) (rs : List Record) → (p.Due ≡ Due.Header → ⊥) → fold (onward kind setup) (Some p) rs ≡ Some e → e.Due ≡ Due.Header → ⊥
-  after_some p e [] not h is = not (ap (λ x. x.Due) (some_same p e h) ∙ is)
-  after_some p e (r ∷ rs) not h is = let f = first_on kind setup p e r rs h in after_some f.next e rs (after_one p f.next r p.Due f.was_due f.passes) f.onto is
+  after_some : (p e : Progress) (rs : List Record) → (p.due ≡ Due.Header → ⊥) → fold (onward kind setup) (Some p) rs ≡ Some e → e.due ≡ Due.Header → ⊥
+  after_some p e [] not h is = not (ap (λ x. x.due) (some_same p e h) ∙ is)
+  after_some p e (r ∷ rs) not h is = let f = first_on kind setup p e r rs h in after_some f.next e rs (after_one p f.next r p.due f.was_due f.passes) f.onto is
 
-  header_first : (rs : List Record) (p : Progress) → reading kind setup rs ≡ Some p → p.Due ≡ Due.Header → rs ≡ []
+  header_first : (rs : List Record) (p : Progress) → reading kind setup rs ≡ Some p → p.due ≡ Due.Header → rs ≡ []
   header_first [] p h is = refl
   header_first (r ∷ rs) p h is = let f = first_on kind setup start p r rs h in absurd (after_some f.next p rs (after_one start f.next r Due.Header f.was_due f.passes) f.onto is)
 

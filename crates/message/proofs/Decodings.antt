@@ -39,7 +39,7 @@ module _ (more : List ℕ) where
   begun : (kind size : ℕ) (bs : List ℕ) → size ≤ length bs → get_or bs 0 0 ≡ kind → begins kind size bs ≡ true
   begun kind size bs long is = and_from _ _ (le-leb _ _ long) (eq-eqb _ _ is)
 
-  -- where a record is Due, and its fields fit, its bytes are read as that record, whatever follows
+  -- where a record is due, and its fields fit, its bytes are read as that record, whatever follows
   pub decoded_format : (d : Due) (r : Record) → is_due d r ≡ true → Fitting r → decoded d (record_bytes r ++ more) ≡ Whole r
   decoded_format Due.Header (RecordKinds.Header h) is f = cond-true _ _ Cut (begun 0x48 6 (header_bytes h ++ more) (omega arith) refl) ∙ ap (λ x. Whole (RecordKinds.Header x)) (header_in_lem h f)
   decoded_format Due.Header (RecordKinds.Section s) is f = absurd (false≢true is)

@@ -24,9 +24,9 @@ use Rattle.message.proofs.Stretches.{Run, Stretch}
 -- THE STRETCH
 
 abbrev pub IntervalsReady : Progress → Type 0
-IntervalsReady p = p.Due ≡ due_after p.intervals p.actions p.sections
+IntervalsReady p = p.due ≡ due_after p.intervals p.actions p.sections
 
-pub due_interval : (p : Progress) → IntervalsReady p → 1 ≤ p.intervals → p.Due ≡ Due.Interval
+pub due_interval : (p : Progress) → IntervalsReady p → 1 ≤ p.intervals → p.due ≡ Due.Interval
 due_interval p so some =
     so ∙ cond-true (ltb 0 p.intervals) Due.Interval (cond (ltb 0 p.actions) Due.Action (cond (ltb 0 p.sections) Due.Section Due.End)) (lt-ltb 0 p.intervals some)
 

@@ -28,7 +28,7 @@ use Rattle.message.proofs.Stretches.{folded_append}
 
 -- SECTIONS
 
-pub due_section : (p : Progress) → p.Due ≡ due_after 0 0 p.sections → 1 ≤ p.sections → p.Due ≡ Due.Section
+pub due_section : (p : Progress) → p.due ≡ due_after 0 0 p.sections → 1 ≤ p.sections → p.due ≡ Due.Section
 due_section p so some = so ∙ cond-true (ltb 0 p.sections) Due.Section Due.End (lt-ltb 0 p.sections some)
 
 module _ (kind : Meaning) (setup : Setup) where
@@ -42,7 +42,7 @@ module _ (kind : Meaning) (setup : Setup) where
     pub rising : Rising (map (λ s. s.article) sections)
 
   -- records that lead to the end are the sections to come
-  pub read_sections : (n : ℕ) (p e : Progress) (rs : List Record) → p.sections ≡ n → p.Due ≡ due_after 0 0 p.sections → All Fitting rs → fold (onward kind setup) (Some p) rs ≡ Some e → e.Due ≡ Due.End → ReadSections n p rs
+  pub read_sections : (n : ℕ) (p e : Progress) (rs : List Record) → p.sections ≡ n → p.due ≡ due_after 0 0 p.sections → All Fitting rs → fold (onward kind setup) (Some p) rs ≡ Some e → e.due ≡ Due.End → ReadSections n p rs
   read_sections zero p e [] is so fits h end = record { sections = []; parts = refl; many = refl; lawful = tt; least = tt; rising = tt }
   read_sections zero p e (r ∷ rs) is so fits h end =
       let f = first_on kind setup p e r rs h in
@@ -66,7 +66,7 @@ module _ (kind : Meaning) (setup : Setup) where
       }
 
   -- the records of lawful sections lead to the end
-  pub sections_read : (ss : List Section) (p : Progress) → p.sections ≡ length ss → p.Due ≡ due_after 0 0 p.sections → All (LawfulSection kind setup) ss → All (λ s. p.next_article ≤ s.article) ss → Rising (map (λ s. s.article) ss) → (e : Progress) × (fold (onward kind setup) (Some p) (flat_map section_records ss) ≡ Some e) × (e.Due ≡ Due.End)
+  pub sections_read : (ss : List Section) (p : Progress) → p.sections ≡ length ss → p.due ≡ due_after 0 0 p.sections → All (LawfulSection kind setup) ss → All (λ s. p.next_article ≤ s.article) ss → Rising (map (λ s. s.article) ss) → (e : Progress) × (fold (onward kind setup) (Some p) (flat_map section_records ss) ≡ Some e) × (e.due ≡ Due.End)
   sections_read [] p is so lawful least up = (p, refl, so ∙ ap (due_after 0 0) is)
   sections_read (s ∷ ss) p is so lawful least up =
       let q = after_all p s in
@@ -100,15 +100,15 @@ module _ (kind : Meaning) (setup : Setup) where
       (and_from _ _ (eq-eqb _ _ t.of_group) (eq-eqb _ _ t.of_kind), and_from _ _ (and_from _ _ (le-leb _ _ t.some) (le-leb _ _ t.few)) (lt-ltb _ _ t.sent))
 
   -- records that are read to the end are those of a lawful message
-  pub reads_lawful : (rs : List Record) (e : Progress) → reading kind setup rs ≡ Some e → All Fitting rs → e.Due ≡ Due.End → (m : Message) × LawfulMessage kind setup m × (records m ≡ rs)
-  reads_lawful [] e h fits end = absurd (let z : Due.Header ≡ Due.End = ap (λ q. q.Due) (some_same start e h) ∙ end in let n : ◌≡◌ {A = ℕ} 0 1 = cc in omega arith)
+  pub reads_lawful : (rs : List Record) (e : Progress) → reading kind setup rs ≡ Some e → All Fitting rs → e.due ≡ Due.End → (m : Message) × LawfulMessage kind setup m × (records m ≡ rs)
+  reads_lawful [] e h fits end = absurd (let z : Due.Header ≡ Due.End = ap (λ q. q.due) (some_same start e h) ∙ end in let n : ◌≡◌ {A = ℕ} 0 1 = cc in omega arith)
   reads_lawful (r ∷ rs) e read fits end =
       let f = first_on kind setup start e r rs read in
       let t = header_on kind setup start f.next r f.was_due f.passes in
       let h = t.0 in
       let told = header_told h t.2 t.3 in
-      let Due = sym (cond-true (ltb 0 h.sections) Due.Section Due.End (lt-ltb 0 h.sections told.some)) in
-      let ss = read_sections kind setup h.sections (after_header start h) e rs refl Due fits.1 (ap (λ q. fold (onward kind setup) (Some q) rs) (sym t.4) ∙ f.onto) end in
+      let due = sym (cond-true (ltb 0 h.sections) Due.Section Due.End (lt-ltb 0 h.sections told.some)) in
+      let ss = read_sections kind setup h.sections (after_header start h) e rs refl due fits.1 (ap (λ q. fold (onward kind setup) (Some q) rs) (sym t.4) ∙ f.onto) end in
       let m : Message = record { group = h.group; kind = h.kind; sender = h.sender; sections = ss.sections } in
       let same : header_of m ≡ h = λ i. record { group = h.group; kind = h.kind; sender = h.sender; sections = ss.many i } in (
         m,
@@ -117,15 +117,15 @@ module _ (kind : Meaning) (setup : Setup) where
       )
 
   -- and the other way round
-  pub lawful_reads : (m : Message) → LawfulMessage kind setup m → (e : Progress) × (reading kind setup (records m) ≡ Some e) × (e.Due ≡ Due.End)
+  pub lawful_reads : (m : Message) → LawfulMessage kind setup m → (e : Progress) × (reading kind setup (records m) ≡ Some e) × (e.due ≡ Due.End)
   lawful_reads m l =
       let h = header_of m in
       let ss = m.sections in
       let p = after_header start h in
       let passes = header_passes h (record { of_group = l.of_group; of_kind = l.of_kind; some = l.some; few = l.few; sent = l.sent }) in
       let first = onward_passes kind setup start p (RecordKinds.Header h) refl (cond-true (named kind setup h) (cond (lawful_header setup h) (Passed p) Broken) Foreign passes.0 ∙ cond-true (lawful_header setup h) (Passed p) Broken passes.1) in
-      let Due = sym (cond-true (ltb 0 (length ss)) Due.Section Due.End (lt-ltb 0 (length ss) l.some)) in
-      let more = sections_read kind setup ss p refl Due l.sections (All-weaker (LawfulSection kind setup) (λ s. 0 ≤ s.article) (λ s k. omega arith) ss l.sections) l.rising in
+      let due = sym (cond-true (ltb 0 (length ss)) Due.Section Due.End (lt-ltb 0 (length ss) l.some)) in
+      let more = sections_read kind setup ss p refl due l.sections (All-weaker (LawfulSection kind setup) (λ s. 0 ≤ s.article) (λ s k. omega arith) ss l.sections) l.rising in
       (more.0, ap (λ o. fold (onward kind setup) o (flat_map section_records ss)) first ∙ more.1, more.2)
 
 -- COUNTS

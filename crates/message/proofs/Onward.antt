@@ -41,17 +41,17 @@ module _ (kind : Meaning) (setup : Setup) where
   stuck [] = refl
   stuck (r ∷ rs) = stuck rs
 
-  -- where several records lead on, the first was Due and passed, and the rest leads on from there
+  -- where several records lead on, the first was due and passed, and the rest leads on from there
   pub record First (p e : Progress) (r : Record) (rs : List Record) : Type 0 where
     pub next : Progress
-    pub was_due : is_due p.Due r ≡ true
+    pub was_due : is_due p.due r ≡ true
     pub passes : admitted kind setup p r ≡ Passed next
     pub onto : fold (onward kind setup) (Some next) rs ≡ Some e
 
   pub first_on : (p e : Progress) (r : Record) (rs : List Record) → fold (onward kind setup) (Some p) (r ∷ rs) ≡ Some e → First p e r rs
-  first_on p e r rs h = by_cases (is_due p.Due r) refl (admitted kind setup p r) refl h
+  first_on p e r rs h = by_cases (is_due p.due r) refl (admitted kind setup p r) refl h
     where
-      by_cases : (b : Bool) → is_due p.Due r ≡ b → (v : Verdict) → admitted kind setup p r ≡ v → fold (onward kind setup) (cond b (granted v) None) rs ≡ Some e → First p e r rs
+      by_cases : (b : Bool) → is_due p.due r ≡ b → (v : Verdict) → admitted kind setup p r ≡ v → fold (onward kind setup) (cond b (granted v) None) rs ≡ Some e → First p e r rs
       by_cases true is (Passed q) so h = record { next = q; was_due = is; passes = so; onto = h }
       by_cases true is Foreign so h = absurd (not_none e (sym (stuck rs) ∙ h))
       by_cases true is Broken so h = absurd (not_none e (sym (stuck rs) ∙ h))

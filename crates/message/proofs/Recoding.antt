@@ -78,7 +78,7 @@ module _ (bs : List ℕ) (bytes : (i : ℕ) → get_or bs i 0 < 256) where
     amount = sfits_to_z record { fits = number4_lt 12 };
   }
 
-  -- the record was Due, its fields fit, and the bytes begin with its own
+  -- the record was due, its fields fit, and the bytes begin with its own
   abbrev Back : Due → Record → Type 0
   Back d r = (is_due d r ≡ true) × Fitting r × (bs ≡ record_bytes r ++ drop (length (record_bytes r)) bs)
 

@@ -87,8 +87,8 @@ module _ (kind : Meaning) (setup : Setup) where
   not_named h e n = both_ways (named kind setup h) e (and_from _ _ (eq-eqb _ _ n.0) (eq-eqb _ _ n.1))
 
   module _ (p : Progress) where
-    foreign_told : (r : Record) → is_due p.Due r ≡ true → admitted kind setup p r ≡ Foreign → (h : Header) × (r ≡ RecordKinds.Header h) × (p.Due ≡ Due.Header) × (Named kind setup h → ⊥)
-    foreign_told (RecordKinds.Header h) is so = (h, refl, header_due p.Due h is, not_named h (header_foreign (named kind setup h) (lawful_header setup h) (after_header p h) so))
+    foreign_told : (r : Record) → is_due p.due r ≡ true → admitted kind setup p r ≡ Foreign → (h : Header) × (r ≡ RecordKinds.Header h) × (p.due ≡ Due.Header) × (Named kind setup h → ⊥)
+    foreign_told (RecordKinds.Header h) is so = (h, refl, header_due p.due h is, not_named h (header_foreign (named kind setup h) (lawful_header setup h) (after_header p h) so))
     foreign_told (RecordKinds.Section s) is so = absurd (never_foreign _ _ so)
     foreign_told (RecordKinds.Interval i) is so = absurd (never_foreign _ _ so)
     foreign_told (RecordKinds.Action x) is so = absurd (never_foreign _ _ so)
@@ -98,30 +98,30 @@ module _ (kind : Meaning) (setup : Setup) where
 
     -- a step that is refused has one of the four reasons
     pub reason : (at : ℕ) (rest : List ℕ) (why : Refusal) → ((i : ℕ) → get_or rest i 0 < 256) → step kind setup p at rest ≡ refused why → Reason kind setup p at rest why
-    reason at rest why bytes h = by_decoded (decoded p.Due rest) refl h
+    reason at rest why bytes h = by_decoded (decoded p.due rest) refl h
       where
         same_refusal : (r : Refusal) → refused r ≡ refused why → why ≡ r
         same_refusal r e = cc
 
-        by_verdict : (r : Record) → decoded p.Due rest ≡ Whole r → (v : Verdict) → admitted kind setup p r ≡ v → judged at r v ≡ refused why → Reason kind setup p at rest why
+        by_verdict : (r : Record) → decoded p.due rest ≡ Whole r → (v : Verdict) → admitted kind setup p r ≡ v → judged at r v ≡ refused why → Reason kind setup p at rest why
         by_verdict r is (Passed q) so e = absurd (let z : ◌≡◌ {A = ℕ} 0 1 = cc in omega arith)
         by_verdict r is Foreign so e =
-            let back = whole_back rest bytes p.Due r is in
+            let back = whole_back rest bytes p.due r is in
             let t = foreign_told r back.0 so in
             other_table (record { is = same_refusal _ e; first = t.2; header = t.0; fitting = subst Fitting t.1 back.1; starts = subst (StartsWith rest) t.1 (drop (length (record_bytes r)) rest, back.2); other = t.3 })
         by_verdict r is Broken so e =
-            let back = whole_back rest bytes p.Due r is in
+            let back = whole_back rest bytes p.due r is in
             rule_broken (record { is = same_refusal _ e; broken = r; was_due = back.0; fitting = back.1; starts = (drop (length (record_bytes r)) rest, back.2); ours = broken_told r so; stops = ap (λ b. cond b (granted (admitted kind setup p r)) None) back.0 ∙ ap granted so })
 
-        by_decoded : (d : Decoded) → decoded p.Due rest ≡ d → stepped kind setup p at d ≡ refused why → Reason kind setup p at rest why
+        by_decoded : (d : Decoded) → decoded p.due rest ≡ d → stepped kind setup p at d ≡ refused why → Reason kind setup p at rest why
         by_decoded (Whole r) is e = by_verdict r is (admitted kind setup p r) refl e
-        by_decoded Cut is e = let t = cut_told rest p.Due is in no_record (record { is = same_refusal _ e; not_ended = t.0; none = t.1 })
+        by_decoded Cut is e = let t = cut_told rest p.due is in no_record (record { is = same_refusal _ e; not_ended = t.0; none = t.1 })
         by_decoded Finished is e = absurd (let z : ◌≡◌ {A = ℕ} 0 1 = cc in omega arith)
-        by_decoded Trailing is e = let t = trailing_told rest p.Due is in bytes_follow (record { is = same_refusal _ e; ended = t.0; more = t.1 })
+        by_decoded Trailing is e = let t = trailing_told rest p.due is in bytes_follow (record { is = same_refusal _ e; ended = t.0; more = t.1 })
 
-    -- a step that ended had the end Due, and no bytes left
-    pub ended_told : (at : ℕ) (rest : List ℕ) → step kind setup p at rest ≡ ended → (p.Due ≡ Due.End) × (rest ≡ [])
-    ended_told at rest h = finished_told rest p.Due (by_decoded (decoded p.Due rest) h)
+    -- a step that ended had the end due, and no bytes left
+    pub ended_told : (at : ℕ) (rest : List ℕ) → step kind setup p at rest ≡ ended → (p.due ≡ Due.End) × (rest ≡ [])
+    ended_told at rest h = finished_told rest p.due (by_decoded (decoded p.due rest) h)
       where
         by_verdict : (r : Record) (v : Verdict) → judged at r v ≡ ended → Whole r ≡ Finished
         by_verdict r (Passed q) e = absurd (let z : ◌≡◌ {A = ℕ} 0 1 = cc in omega arith)

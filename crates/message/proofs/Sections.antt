@@ -101,7 +101,7 @@ module _ (kind : Meaning) (setup : Setup) (p : Progress) (s : Section) (some : 1
   next_article =
       folded_keeps (λ q. q.next_article) after_action (λ _ _. refl) (after_intervals p (head_of s) s.intervals) s.actions ∙ folded_keeps (λ q. q.next_article) after_interval (λ _ _. refl) (after_section p (head_of s)) s.intervals
 
-  pub due_next : (after_all p s).Due ≡ due_after 0 0 (p.sections - 1)
+  pub due_next : (after_all p s).due ≡ due_after 0 0 (p.sections - 1)
   due_next =
       let middle = after_intervals p (head_of s) s.intervals in
       let none : (after_all p s).actions ≡ 0 = left_after kind setup _ _ _ _ _ (actions_stretch kind setup) middle s.actions ∙ omega (arith, actions_left kind setup p (head_of s) s.intervals) in
@@ -158,7 +158,7 @@ module _ (kind : Meaning) (setup : Setup) (p : Progress) (s : Section) where
         counted = fits.actions;
       }
 
-module _ (kind : Meaning) (setup : Setup) (p : Progress) (is : p.Due ≡ Due.Section) where
+module _ (kind : Meaning) (setup : Setup) (p : Progress) (is : p.due ≡ Due.Section) where
   -- a list of records begins with a lawful section, and what follows it leads on
   pub record ReadSection (e : Progress) (rs : List Record) : Type 0 where
     pub section : Section
@@ -169,9 +169,9 @@ module _ (kind : Meaning) (setup : Setup) (p : Progress) (is : p.Due ≡ Due.Sec
     pub fitting : All Fitting rest
     pub onto : fold (onward kind setup) (Some (after_all p section)) rest ≡ Some e
 
-  -- records that lead to the end begin with a section where one is Due
-  pub read_section : (e : Progress) (rs : List Record) → All Fitting rs → fold (onward kind setup) (Some p) rs ≡ Some e → e.Due ≡ Due.End → ReadSection e rs
-  read_section e [] fits h end = absurd (let z : Due.Section ≡ Due.End = sym is ∙ ap (λ q. q.Due) (some_same p e h) ∙ end in let n : ◌≡◌ {A = ℕ} 0 1 = cc in omega arith)
+  -- records that lead to the end begin with a section where one is due
+  pub read_section : (e : Progress) (rs : List Record) → All Fitting rs → fold (onward kind setup) (Some p) rs ≡ Some e → e.due ≡ Due.End → ReadSection e rs
+  read_section e [] fits h end = absurd (let z : Due.Section ≡ Due.End = sym is ∙ ap (λ q. q.due) (some_same p e h) ∙ end in let n : ◌≡◌ {A = ℕ} 0 1 = cc in omega arith)
   read_section e (r ∷ rs) fits h end =
       let f = first_on kind setup p e r rs h in
       let t = section_on kind setup p f.next r (ap (λ d. is_due d r) (sym is) ∙ f.was_due) f.passes in

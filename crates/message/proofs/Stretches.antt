@@ -25,11 +25,11 @@ abbrev pub Run : {X : Type 0} → (Progress → X → Bool) → (Progress → X 
 Run test after p [] = Unit {0}
 Run test after p (x ∷ xs) = (test p x ≡ true) × Run test after (after p x) xs
 
--- so many are left, and as long as any is, just such a record is Due
+-- so many are left, and as long as any is, just such a record is due
 pub record Stretch (kind : Meaning) (setup : Setup) {X : Type 0} (wrap : X → Record) (test : Progress → X → Bool) (after : Progress → X → Progress) (left : Progress → ℕ) (Ready : Progress → Type 0) : Type 0 where
-  pub takes : (p q : Progress) (r : Record) → Ready p → 1 ≤ left p → is_due p.Due r ≡ true → admitted kind setup p r ≡ Passed q → (x : X) × (r ≡ wrap x) × (test p x ≡ true) × (q ≡ after p x)
+  pub takes : (p q : Progress) (r : Record) → Ready p → 1 ≤ left p → is_due p.due r ≡ true → admitted kind setup p r ≡ Passed q → (x : X) × (r ≡ wrap x) × (test p x ≡ true) × (q ≡ after p x)
   pub leads : (p : Progress) (x : X) → Ready p → 1 ≤ left p → test p x ≡ true → onward kind setup (Some p) (wrap x) ≡ Some (after p x)
-  pub goes_on : (p : Progress) → Ready p → 1 ≤ left p → p.Due ≡ Due.End → ⊥
+  pub goes_on : (p : Progress) → Ready p → 1 ≤ left p → p.due ≡ Due.End → ⊥
   pub fewer : (p : Progress) (x : X) → left (after p x) ≡ left p - 1
   pub ready : (p : Progress) (x : X) → Ready p → Ready (after p x)
 
@@ -44,9 +44,9 @@ module _ (kind : Meaning) (setup : Setup) {X : Type 0} (wrap : X → Record) (te
     pub onto : fold (onward kind setup) (Some (fold after p items)) rest ≡ Some e
 
   -- records that lead to the end begin with all that are left of the stretch
-  pub split : (n : ℕ) (p e : Progress) (rs : List Record) → left p ≡ n → Ready p → fold (onward kind setup) (Some p) rs ≡ Some e → e.Due ≡ Due.End → Split n p e rs
+  pub split : (n : ℕ) (p e : Progress) (rs : List Record) → left p ≡ n → Ready p → fold (onward kind setup) (Some p) rs ≡ Some e → e.due ≡ Due.End → Split n p e rs
   split zero p e rs is so h end = record { items = []; rest = rs; parts = refl; many = refl; run = tt; onto = h }
-  split (suc n) p e [] is so h end = absurd (stretch.goes_on p so (omega arith) (ap (λ q. q.Due) (some_same p e h) ∙ end))
+  split (suc n) p e [] is so h end = absurd (stretch.goes_on p so (omega arith) (ap (λ q. q.due) (some_same p e h) ∙ end))
   split (suc n) p e (r ∷ rs) is so h end =
       let f = first_on kind setup p e r rs h in
       let t = stretch.takes p f.next r so (omega arith) f.was_due f.passes in

@@ -53,16 +53,16 @@ module _ (kind : Meaning) (setup : Setup) (bytes : List ℕ) (fits : (i : ℕ) �
       let rest = told.2 in
       λ qs q less c. omega (arith, begins_length qs rs (longest kind setup bytes rs qs p q rest less _ (shown e) told.3 told.4 c), place_is kind setup rs p rest (shown e) told.3.lawful told.4)
 
--- nothing is refused where the end is Due and no bytes are left
-none_refused : (kind : Meaning) (setup : Setup) (p : Progress) (at : ℕ) (rest : List ℕ) (why : Refusal) → p.Due ≡ Due.End → rest ≡ [] → Reason kind setup p at rest why → ⊥
+-- nothing is refused where the end is due and no bytes are left
+none_refused : (kind : Meaning) (setup : Setup) (p : Progress) (at : ℕ) (rest : List ℕ) (why : Refusal) → p.due ≡ Due.End → rest ≡ [] → Reason kind setup p at rest why → ⊥
 none_refused kind setup p at rest why end none (no_record n) = n.not_ended end
 none_refused kind setup p at rest why end none (other_table o) = let e : Due.Header ≡ Due.End = sym o.first ∙ end in let z : ◌≡◌ {A = ℕ} 0 1 = cc in omega arith
 none_refused kind setup p at rest why end none (rule_broken b) = false≢true (ap (λ d. is_due d b.broken) (sym end) ∙ b.was_due)
 none_refused kind setup p at rest why end none (bytes_follow f) = omega (arith, f.more, ap length none)
 
 module _ (kind : Meaning) (setup : Setup) (small : kind.number ≤ 255) (bytes : List ℕ) where
-  -- a lawful message is a lawful beginning of its format, at whose end the end is Due
-  message_begins : (m : Message) → LawfulMessage kind setup m → bytes ≡ format m → (e : Progress) × Beginning kind setup bytes (records m) e [] × (e.Due ≡ Due.End)
+  -- a lawful message is a lawful beginning of its format, at whose end the end is due
+  message_begins : (m : Message) → LawfulMessage kind setup m → bytes ≡ format m → (e : Progress) × Beginning kind setup bytes (records m) e [] × (e.due ≡ Due.End)
   message_begins m l is =
       let read = lawful_reads kind setup m l in
       (read.0, record { lawful = read.1; fitting = lawful_fits kind setup small m l; front = is ∙ sym (append-nil (format m)) }, read.2)
@@ -93,4 +93,4 @@ module _ (kind : Meaning) (setup : Setup) (small : kind.number ≤ 255) (bytes :
         let same : rs ≡ records m = begins.1 ∙ ap (λ l. records m ++ l) none ∙ append-nil (records m) in
         let here : p ≡ a.0 = some_same p a.0 (sym told.3.lawful ∙ ap (reading kind setup) same ∙ a.1.lawful) in
         let empty : rest ≡ [] = append_cancel_left (flat_map record_bytes rs) rest [] (sym told.3.front ∙ a.1.front ∙ ap (λ l. flat_map record_bytes l ++ []) (sym same)) in
-        absurd (none_refused kind setup p _ rest (shown e) (ap (λ q. q.Due) here ∙ a.2) empty told.4)
+        absurd (none_refused kind setup p _ rest (shown e) (ap (λ q. q.due) here ∙ a.2) empty told.4)

@@ -34,7 +34,7 @@ Unique kind setup bytes = (m n : Message) → LawfulMessage kind setup m → Law
 
 -- BEGINNINGS
 
--- the bytes begin with those of these records, each Due and lawful after those before it
+-- the bytes begin with those of these records, each due and lawful after those before it
 pub record Beginning (kind : Meaning) (setup : Setup) (bytes : List ℕ) (rs : List Record) (p : Progress) (rest : List ℕ) : Type 0 where
   pub lawful : reading kind setup rs ≡ Some p
   pub fitting : All Fitting rs
@@ -49,35 +49,35 @@ Named kind setup h = (h.group ≡ setup.group) × (h.kind ≡ kind.number)
 
 -- REFUSALS
 
--- 9: a record is Due, and the rest starts with none of its kind
+-- 9: a record is due, and the rest starts with none of its kind
 pub record NoRecord (p : Progress) (at : ℕ) (rest : List ℕ) (refusal : Refusal) : Type 0 where
   pub is : refusal ≡ by_reader 9 at
-  pub not_ended : p.Due ≡ Due.End → ⊥
-  pub none : (r : Record) → is_due p.Due r ≡ true → Fitting r → StartsWith rest r → ⊥
+  pub not_ended : p.due ≡ Due.End → ⊥
+  pub none : (r : Record) → is_due p.due r ≡ true → Fitting r → StartsWith rest r → ⊥
 
 -- 10: the rest starts with a header of another group or kind
 pub record OtherTable (kind : Meaning) (setup : Setup) (p : Progress) (rest : List ℕ) (refusal : Refusal) : Type 0 where
   pub is : refusal ≡ by_reader 10 0
-  pub first : p.Due ≡ Due.Header
+  pub first : p.due ≡ Due.Header
   pub header : Header
   pub fitting : Fitting (RecordKinds.Header header)
   pub starts : StartsWith rest (RecordKinds.Header header)
   pub other : Named kind setup header → ⊥
 
--- 11: the rest starts with a record of the kind Due that breaks a rule, and it is no header of another group or kind
+-- 11: the rest starts with a record of the kind due that breaks a rule, and it is no header of another group or kind
 pub record RuleBroken (kind : Meaning) (setup : Setup) (p : Progress) (at : ℕ) (rest : List ℕ) (refusal : Refusal) : Type 0 where
   pub is : refusal ≡ by_reader 11 at
   pub broken : Record
-  pub was_due : is_due p.Due broken ≡ true
+  pub was_due : is_due p.due broken ≡ true
   pub fitting : Fitting broken
   pub starts : StartsWith rest broken
   pub ours : (h : Header) → broken ≡ RecordKinds.Header h → Named kind setup h
   pub stops : onward kind setup (Some p) broken ≡ None
 
--- 12: the end is Due, and bytes follow
+-- 12: the end is due, and bytes follow
 pub record BytesFollow (p : Progress) (at : ℕ) (rest : List ℕ) (refusal : Refusal) : Type 0 where
   pub is : refusal ≡ by_reader 12 at
-  pub ended : p.Due ≡ Due.End
+  pub ended : p.due ≡ Due.End
   pub more : 1 ≤ length rest
 
 -- why the rest of the bytes, from place at on, is refused

@@ -1,4 +1,4 @@
--- Which record the next bytes are, where one of a kind is Due. Assumes nothing.
+-- Which record the next bytes are, where one of a kind is due. Assumes nothing.
 use Rattle.std.specs.Prelude.{ℕ, ◌+◌, ◌*◌, Bool, cond, ◌&&◌, List, length, ◌==◌, nat_le, slice_index}
 use Rattle.action.specs.Bytes.{action_of, number4}
 use Rattle.message.specs.declared.decodes.Decoded.{Decoded}
@@ -27,7 +27,7 @@ section_in bs = record { article = slice_index bs 1; intervals = slice_index bs 
 abbrev pub interval_in : List ℕ → Interval
 interval_in bs = record { site = slice_index bs 1; from = number4 bs 2; to = number4 bs 6 }
 
--- a record that is cut off, or not of the kind Due, is none
+-- a record that is cut off, or not of the kind due, is none
 abbrev pub decoded : Due → List ℕ → Decoded
 decoded Due.Header bs = cond (begins 0x48 6 bs) (Whole (RecordKinds.Header (header_in bs))) Cut
 decoded Due.Section bs = cond (begins 0x53 5 bs) (Whole (RecordKinds.Section (section_in bs))) Cut

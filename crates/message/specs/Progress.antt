@@ -28,9 +28,9 @@ abbrev pub no_action : Action
 no_action = record { coordinator = 0; time = 0; transaction = 0; article = 0; operation = 0; amount = pos 0 }
 
 abbrev pub start : Progress
-start = record { Due = Due.Header; sections = 0; intervals = 0; actions = 0; article = 0; next_article = 0; next_site = 0; spans = no_spans; last = no_action }
+start = record { due = Due.Header; sections = 0; intervals = 0; actions = 0; article = 0; next_article = 0; next_site = 0; spans = no_spans; last = no_action }
 
--- what is Due where so many intervals, actions and sections are to come
+-- what is due where so many intervals, actions and sections are to come
 abbrev pub due_after : ℕ → ℕ → ℕ → Due
 due_after intervals actions sections = cond (nat_lt 0 intervals) Due.Interval (cond (nat_lt 0 actions) Due.Action (cond (nat_lt 0 sections) Due.Section Due.End))
 
@@ -45,7 +45,7 @@ lawful_header setup h = (nat_le 1 h.sections && nat_le h.sections 16) && nat_lt 
 
 abbrev pub after_header : Progress → Header → Progress
 after_header p h = record {
-  Due = Due.Section;
+  due = Due.Section;
   sections = h.sections;
   intervals = p.intervals;
   actions = p.actions;
@@ -64,7 +64,7 @@ lawful_section setup p s =
 
 abbrev pub after_section : Progress → SectionHead → Progress
 after_section p s = record {
-  Due = Due.Interval;
+  due = Due.Interval;
   sections = p.sections - 1;
   intervals = s.intervals;
   actions = s.actions;
@@ -83,7 +83,7 @@ lawful_interval setup p i =
 
 abbrev pub after_interval : Progress → Interval → Progress
 after_interval p i = record {
-  Due = due_after (p.intervals - 1) p.actions p.sections;
+  due = due_after (p.intervals - 1) p.actions p.sections;
   sections = p.sections;
   intervals = p.intervals - 1;
   actions = p.actions;
@@ -105,7 +105,7 @@ lawful_action kind p x =
 
 abbrev pub after_action : Progress → Action → Progress
 after_action p x = record {
-  Due = due_after 0 (p.actions - 1) p.sections;
+  due = due_after 0 (p.actions - 1) p.sections;
   sections = p.sections;
   intervals = p.intervals;
   actions = p.actions - 1;

@@ -42,7 +42,7 @@ stepped kind setup p at Finished = ended
 stepped kind setup p at Trailing = refused (by_reader 12 at)
 
 abbrev pub step : Meaning → Setup → Progress → ℕ → List ℕ → Step
-step kind setup p at rest = stepped kind setup p at (decoded p.Due rest)
+step kind setup p at rest = stepped kind setup p at (decoded p.due rest)
 
 -- a look at the next bytes, as the code answers it
 abbrev pub seen : Look → Step
@@ -89,12 +89,12 @@ granted (Passed p) = Some p
 granted Foreign = None
 granted Broken = None
 
--- the progress after one more record, where it is Due and lawful
+-- the progress after one more record, where it is due and lawful
 abbrev pub onward : Meaning → Setup → Option Progress → Record → Option Progress
 onward kind setup None r = None
-onward kind setup (Some p) r = cond (is_due p.Due r) (granted (admitted kind setup p r)) None
+onward kind setup (Some p) r = cond (is_due p.due r) (granted (admitted kind setup p r)) None
 
--- the progress after these records, where each is Due and lawful after those before it
+-- the progress after these records, where each is due and lawful after those before it
 abbrev pub reading : Meaning → Setup → List Record → Option Progress
 reading kind setup rs = fold (onward kind setup) (Some start) rs
 
@@ -104,7 +104,7 @@ is_action (RecordKinds.Section _) = false
 is_action (RecordKinds.Interval _) = false
 is_action (RecordKinds.Action _) = true
 
--- the first bytes are these records, each Due and lawful after those before it
+-- the first bytes are these records, each due and lawful after those before it
 pub record Begun (kind : Meaning) (setup : Setup) (bytes : List ℕ) (at : ℕ) (p : Progress) : Type 0 where
   pub records : List Record
   pub lawful : reading kind setup records ≡ Some p

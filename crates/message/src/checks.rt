@@ -19,7 +19,7 @@ fn is_action(read: &Record) -> bool
 
 // Reads all the bytes as one message, and answers how many actions it carries.
 fn scan<K: Kind>(setup: Setup, bytes: &[u8]) -> Result<usize, ReaderFault>
-    ensures { Scanned means setup bytes.now result }
+    ensures { Scanned K.means setup bytes.now result }
 {
     let mut reader = Reader::new(setup, bytes);
     let mut actions = 0;
@@ -34,11 +34,11 @@ fn scan<K: Kind>(setup: Setup, bytes: &[u8]) -> Result<usize, ReaderFault>
 // Are the bytes a message for a table of this set-up and kind? Answers how many actions it carries, or
 // the first fault.
 pub fn check<K: Kind>(setup: Setup, bytes: &[u8]) -> Result<usize, ReaderFault>
-    ensures accepted { Accepted means setup bytes.now result }
-    ensures accepts { Accepts means setup bytes.now result }
-    ensures unique { Unique means setup bytes.now }
-    ensures refused { Refused means setup bytes.now result }
-    ensures longest { Longest means setup bytes.now result }
+    ensures accepted { Accepted K.means setup bytes.now result }
+    ensures accepts { Accepts K.means setup bytes.now result }
+    ensures unique { Unique K.means setup bytes.now }
+    ensures refused { Refused K.means setup bytes.now result }
+    ensures longest { Longest K.means setup bytes.now result }
 {
     scan::<K>(setup, bytes)
 }

@@ -12,7 +12,7 @@ use kind::Kind;
 
 // Which record the rest of the bytes, from place `at` on, begins with, and whether it is lawful.
 fn look<K: Kind>(setup: &Setup, progress: &Progress, at: usize, rest: &[u8]) -> Look
-    ensures value { seen result ≡ step means setup.now progress.now at rest.now }
+    ensures value { seen result ≡ step K.means setup.now progress.now at rest.now }
     ensures fits { width result ≤ length rest.now }
 {
     match decode(progress.due, rest) {
@@ -45,7 +45,7 @@ impl<'a> Reader<'a> {
 
     // The next record with its offset, or `None` at the end of a whole message.
     pub fn next<K: Kind>(&mut self) -> Result<Option<Found>, ReaderFault>
-        ensures does { Next means self.old.setup self.old.progress self.old.at self.old.bytes.now result self.new.progress self.new.at }
+        ensures does { Next K.means self.old.setup self.old.progress self.old.at self.old.bytes.now result self.new.progress self.new.at }
         ensures setup { self.new.setup ≡ self.old.setup }
         ensures bytes { self.new.bytes.now ≡ self.old.bytes.now }
     {

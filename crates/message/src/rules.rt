@@ -24,7 +24,7 @@ fn due_after(intervals: u8, actions: u16, sections: u8) -> Due
 
 // Does the header name the group and the kind?
 fn is_named<K: Kind>(setup: &Setup, header: &Header) -> bool
-    ensures { result ≡ named means setup.now header.now }
+    ensures { result ≡ named K.means setup.now header.now }
 {
     header.group == setup.group && header.kind == K::number()
 }
@@ -64,7 +64,7 @@ fn span(progress: &Progress, site: u8) -> Span
 }
 
 fn is_lawful_action<K: Kind>(progress: &Progress, action: &Action) -> bool
-    ensures { result ≡ lawful_action means progress.now action.now }
+    ensures { result ≡ lawful_action K.means progress.now action.now }
 {
     let span = span(progress, action.coordinator);
     action.article == progress.article
@@ -77,7 +77,7 @@ fn is_lawful_action<K: Kind>(progress: &Progress, action: &Action) -> bool
 }
 
 fn admit_header<K: Kind>(setup: &Setup, progress: &Progress, header: Header) -> Verdict
-    ensures { result ≡ admitted means setup.now progress.now (HeaderRecord header) }
+    ensures { result ≡ admitted K.means setup.now progress.now (HeaderRecord header) }
 {
     if !is_named::<K>(setup, &header) {
         return Verdict::Foreign;
@@ -92,7 +92,7 @@ fn admit_header<K: Kind>(setup: &Setup, progress: &Progress, header: Header) -> 
 }
 
 fn admit_section<K: Kind>(setup: &Setup, progress: &Progress, head: SectionHead) -> Verdict
-    ensures { result ≡ admitted means setup.now progress.now (SectionRecord head) }
+    ensures { result ≡ admitted K.means setup.now progress.now (SectionRecord head) }
 {
     if !is_lawful_section(setup, progress, &head) {
         return Verdict::Broken;
@@ -108,7 +108,7 @@ fn admit_section<K: Kind>(setup: &Setup, progress: &Progress, head: SectionHead)
 }
 
 fn admit_interval<K: Kind>(setup: &Setup, progress: &Progress, interval: Interval) -> Verdict
-    ensures { result ≡ admitted means setup.now progress.now (IntervalRecord interval) }
+    ensures { result ≡ admitted K.means setup.now progress.now (IntervalRecord interval) }
 {
     if !is_lawful_interval(setup, progress, &interval) {
         return Verdict::Broken;
@@ -125,7 +125,7 @@ fn admit_interval<K: Kind>(setup: &Setup, progress: &Progress, interval: Interva
 }
 
 fn admit_action<K: Kind>(setup: &Setup, progress: &Progress, action: Action) -> Verdict
-    ensures { result ≡ admitted means setup.now progress.now (ActionRecord action) }
+    ensures { result ≡ admitted K.means setup.now progress.now (ActionRecord action) }
 {
     if !is_lawful_action::<K>(progress, &action) {
         return Verdict::Broken;
@@ -139,7 +139,7 @@ fn admit_action<K: Kind>(setup: &Setup, progress: &Progress, action: Action) -> 
 
 // A record after those before it.
 pub(crate) fn admit<K: Kind>(setup: &Setup, progress: &Progress, record: Record) -> Verdict
-    ensures { result ≡ admitted means setup.now progress.now «record» }
+    ensures { result ≡ admitted K.means setup.now progress.now «record» }
 {
     match record {
         Record::Header(header) => admit_header::<K>(setup, progress, header),

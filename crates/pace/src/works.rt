@@ -18,8 +18,8 @@ pub(crate) const ARTICLES: u8 = 4;
 
 // Writes the action of this number. Granted or refused, the ticket stays the table's.
 fn write_action<H: History>(table: &mut Table<OnHand, H>, ticket: &Ticket, number: usize)
-    requires { holds on_hand (view items room table.old) ticket.now ≡ true }
-    ensures { holds on_hand (view items room table.new) ticket.now ≡ true }
+    requires { holds on_hand (view H.items H.room table.old) ticket.now ≡ true }
+    ensures { holds on_hand (view H.items H.room table.new) ticket.now ≡ true }
 {
     let article = (number % 4) as u8;
     let amount = (number % 1000) as i32 - 500;
@@ -28,7 +28,7 @@ fn write_action<H: History>(table: &mut Table<OnHand, H>, ticket: &Ticket, numbe
 
 // Abandons the open transaction. That is not refused, since the ticket is the table's own.
 fn give_up<H: History>(table: &mut Table<OnHand, H>, ticket: Ticket)
-    requires { holds on_hand (view items room table.old) ticket ≡ true }
+    requires { holds on_hand (view H.items H.room table.old) ticket ≡ true }
 {
     match table.abandon(ticket) {
         Ok(()) => {}

@@ -50,10 +50,10 @@ fn is_up_to(article: u8, time: u32, action: &Action) -> bool
 
 // Works an action into a base, and takes place `i` out of the history.
 fn move_action<K: Kind, H: History>(base: &mut i64, history: &mut H, i: usize, action: &Action)
-    requires { i < length (items history.old) }
-    ensures figure { base.new ≡ means.steps base.old action.now.operation action.now.amount }
-    ensures list { items history.new ≡ remove (items history.old) i }
-    ensures fixed { room history.new ≡ room history.old }
+    requires { i < length (H.items history.old) }
+    ensures figure { base.new ≡ K.means.steps base.old action.now.operation action.now.amount }
+    ensures list { H.items history.new ≡ remove (H.items history.old) i }
+    ensures fixed { H.room history.new ≡ H.room history.old }
 {
     *base = K::step(*base, action.operation, action.amount);
     take_out(history, i);
@@ -67,10 +67,10 @@ pub fn move_actions<K: Kind, H: History>(
     article: u8,
     time: u32,
 ) -> usize
-    ensures count { result ≡ length (filter (is_up_to article time) (items history.old)) }
-    ensures figure { base.new ≡ working means.steps base.old (filter (is_up_to article time) (items history.old)) }
-    ensures list { items history.new ≡ filter (λ x. not (is_up_to article time x)) (items history.old) }
-    ensures fixed { room history.new ≡ room history.old }
+    ensures count { result ≡ length (filter (is_up_to article time) (H.items history.old)) }
+    ensures figure { base.new ≡ working K.means.steps base.old (filter (is_up_to article time) (H.items history.old)) }
+    ensures list { H.items history.new ≡ filter (λ x. not (is_up_to article time x)) (H.items history.old) }
+    ensures fixed { H.room history.new ≡ H.room history.old }
 {
     let mut i = 0;
     let mut gone = 0;

@@ -8,8 +8,8 @@ use history::History;
 
 // The action at a place that the history has.
 pub(crate) fn place<H: History>(history: &H, i: usize) -> Action
-    requires { i < length (items history.now) }
-    ensures { result ≡ slice_index_or (items history.now) i result }
+    requires { i < length (H.items history.now) }
+    ensures { result ≡ slice_index_or (H.items history.now) i result }
 {
     match history.read(i) {
         Ok(action) => action,
@@ -19,9 +19,9 @@ pub(crate) fn place<H: History>(history: &H, i: usize) -> Action
 
 // Takes out the action at a place that the history has.
 pub(crate) fn take_out<H: History>(history: &mut H, i: usize)
-    requires { i < length (items history.old) }
-    ensures list { items history.new ≡ remove (items history.old) i }
-    ensures fixed { room history.new ≡ room history.old }
+    requires { i < length (H.items history.old) }
+    ensures list { H.items history.new ≡ remove (H.items history.old) i }
+    ensures fixed { H.room history.new ≡ H.room history.old }
 {
     match history.remove(i) {
         Ok(_) => {}
@@ -32,7 +32,7 @@ pub(crate) fn take_out<H: History>(history: &mut H, i: usize)
 // The place behind the last action that precedes this one, looked for from the end, since what comes
 // is mostly later than what is there.
 fn place_of<H: History>(history: &H, action: &Action) -> usize
-    ensures { result ≡ place_of (items history.now) action.now }
+    ensures { result ≡ place_of (H.items history.now) action.now }
 {
     let mut end = history.count();
     while end > 0 {
@@ -47,9 +47,9 @@ fn place_of<H: History>(history: &H, action: &Action) -> usize
 
 // Puts the action at its place in the history.
 pub(crate) fn insert_in_order<H: History>(history: &mut H, action: &Action)
-    requires { length (items history.old) < room history.old }
-    ensures list { items history.new ≡ placed (items history.old) action.now }
-    ensures fixed { room history.new ≡ room history.old }
+    requires { length (H.items history.old) < H.room history.old }
+    ensures list { H.items history.new ≡ placed (H.items history.old) action.now }
+    ensures fixed { H.room history.new ≡ H.room history.old }
 {
     let i = place_of(history, action);
     match history.insert(i, *action) {

@@ -50,7 +50,7 @@ pub fn raise_rows(rows: &mut [Row], own: u8, actions: &[Action])
 
 // Steps the kept figure of the action's article.
 pub(crate) fn step_row<K: Kind>(rows: &mut [Row], action: &Action)
-    ensures { rows.new ≡ on_row (stepped_row means.steps) rows.old action.now }
+    ensures { rows.new ≡ on_row (stepped_row K.means.steps) rows.old action.now }
 {
     let article = action.article as usize;
     if article < rows.len() {
@@ -61,7 +61,7 @@ pub(crate) fn step_row<K: Kind>(rows: &mut [Row], action: &Action)
 
 // Steps the kept figures by the actions, in order.
 fn step_rows<K: Kind>(rows: &mut [Row], actions: &[Action])
-    ensures { rows.new ≡ fold (on_row (stepped_row means.steps)) rows.old actions.now }
+    ensures { rows.new ≡ fold (on_row (stepped_row K.means.steps)) rows.old actions.now }
 {
     for action in actions {
         step_row::<K>(rows, action);
@@ -79,7 +79,7 @@ fn restart(rows: &mut [Row])
 
 // Works every figure again, from its base by the history.
 pub(crate) fn rework<K: Kind, H: History>(rows: &mut [Row], history: &H)
-    ensures { rows.new ≡ fold (on_row (stepped_row means.steps)) (map restarted rows.old) (items history.now) }
+    ensures { rows.new ≡ fold (on_row (stepped_row K.means.steps)) (map restarted rows.old) (H.items history.now) }
 {
     restart(rows);
     for i in 0..history.count() {
@@ -91,7 +91,7 @@ pub(crate) fn rework<K: Kind, H: History>(rows: &mut [Row], history: &H)
 // Works the figures after new actions have gone into the history: a commuting kind steps the kept
 // figures by the new actions alone, any other works again.
 pub fn work_rows<K: Kind, H: History>(rows: &mut [Row], history: &H, new: &[Action])
-    ensures { rows.new ≡ (if means.commutes then fold (on_row (stepped_row means.steps)) rows.old new.now else fold (on_row (stepped_row means.steps)) (map restarted rows.old) (items history.now)) }
+    ensures { rows.new ≡ (if K.means.commutes then fold (on_row (stepped_row K.means.steps)) rows.old new.now else fold (on_row (stepped_row K.means.steps)) (map restarted rows.old) (H.items history.now)) }
 {
     if K::is_commuting() {
         step_rows::<K>(rows, new);
@@ -102,9 +102,9 @@ pub fn work_rows<K: Kind, H: History>(rows: &mut [Row], history: &H, new: &[Acti
 
 // Puts the actions at the end of the history.
 pub fn append<H: History>(history: &mut H, actions: &[Action])
-    requires { length (items history.old) + length actions.now ≤ room history.old }
-    ensures list { items history.new ≡ items history.old ++ actions.now }
-    ensures fixed { room history.new ≡ room history.old }
+    requires { length (H.items history.old) + length actions.now ≤ H.room history.old }
+    ensures list { H.items history.new ≡ H.items history.old ++ actions.now }
+    ensures fixed { H.room history.new ≡ H.room history.old }
 {
     for action in actions {
         let end = history.count();

@@ -41,9 +41,9 @@ pub fn count_new(bytes: &[u8], rows: &[Row], own: u8) -> usize
 
 // Puts the message's new actions at their places in the history.
 pub fn insert_new<H: History>(history: &mut H, rows: &[Row], own: u8, bytes: &[u8])
-    requires { length (items history.old) + length (filter (is_new_in rows.now own) (actions_of (records_in bytes.now))) ≤ room history.old }
-    ensures list { items history.new ≡ fold placed (items history.old) (filter (is_new_in rows.now own) (actions_of (records_in bytes.now))) }
-    ensures fixed { room history.new ≡ room history.old }
+    requires { length (H.items history.old) + length (filter (is_new_in rows.now own) (actions_of (records_in bytes.now))) ≤ H.room history.old }
+    ensures list { H.items history.new ≡ fold placed (H.items history.old) (filter (is_new_in rows.now own) (actions_of (records_in bytes.now))) }
+    ensures fixed { H.room history.new ≡ H.room history.old }
 {
     let mut at = 0;
     while let Some(record) = record_at(bytes, at) {
@@ -57,7 +57,7 @@ pub fn insert_new<H: History>(history: &mut H, rows: &[Row], own: u8, bytes: &[u
 // Steps the kept figures by the message's new actions. A step changes no known entry, so it does not
 // change what is new.
 pub(crate) fn step_new<K: Kind>(bytes: &[u8], rows: &mut [Row], own: u8)
-    ensures { rows.new ≡ fold (on_row (stepped_row means.steps)) rows.old (filter (is_new_in rows.old own) (actions_of (records_in bytes.now))) }
+    ensures { rows.new ≡ fold (on_row (stepped_row K.means.steps)) rows.old (filter (is_new_in rows.old own) (actions_of (records_in bytes.now))) }
 {
     let mut at = 0;
     while let Some(record) = record_at(bytes, at) {
@@ -111,7 +111,7 @@ pub fn record_rows<K: Kind, H: History>(
     clock: u32,
 ) -> u32
     ensures times { result ≡ fold (λ t h. max t h.1.to) clock (intervals_of 0 (records_in bytes.now)) }
-    ensures rows { rows.new ≡ (if means.commutes then fold (raised_rows own sender) (fold (on_row (stepped_row means.steps)) rows.old (filter (is_new_in rows.old own) (actions_of (records_in bytes.now)))) (intervals_of 0 (records_in bytes.now)) else fold (on_row (stepped_row means.steps)) (map restarted (fold (raised_rows own sender) rows.old (intervals_of 0 (records_in bytes.now)))) (items history.now)) }
+    ensures rows { rows.new ≡ (if K.means.commutes then fold (raised_rows own sender) (fold (on_row (stepped_row K.means.steps)) rows.old (filter (is_new_in rows.old own) (actions_of (records_in bytes.now)))) (intervals_of 0 (records_in bytes.now)) else fold (on_row (stepped_row K.means.steps)) (map restarted (fold (raised_rows own sender) rows.old (intervals_of 0 (records_in bytes.now)))) (H.items history.now)) }
 {
     if K::is_commuting() {
         step_new::<K>(bytes, rows, own);

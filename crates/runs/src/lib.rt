@@ -10,7 +10,7 @@ use kind::Kind;
 // site has just once; where an article is an open item nowhere, its figure is the same everywhere; and a
 // message taken again changes nothing.
 pub fn each_movement_counted_once<K: Kind>()
-    ensures counted { Counted means }
-    ensures level { Level means }
-    ensures repeated { Repeated means }
+    ensures counted { Counted K.means }
+    ensures level { Level K.means }
+    ensures repeated { Repeated K.means }
 {}

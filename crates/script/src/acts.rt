@@ -17,8 +17,8 @@ const ADD: u8 = 1;
 
 // Abandons the open transaction. That is not refused, since the ticket is the table's own.
 fn give_up<H: History>(table: &mut Table<OnHand, H>, ticket: Ticket)
-    requires { holds on_hand (view items room table.old) ticket ≡ true }
-    ensures { view items room table.new ≡ abandoned (view items room table.old) }
+    requires { holds on_hand (view H.items H.room table.old) ticket ≡ true }
+    ensures { view H.items H.room table.new ≡ abandoned (view H.items H.room table.old) }
 {
     match table.abandon(ticket) {
         Ok(()) => {}
@@ -34,7 +34,7 @@ pub(crate) fn move_stock<H: History>(
     amount: i32,
     slot: &mut Slot,
 ) -> Result<Answer, TableFault>
-    ensures { Moved (view items room table.old) article amount (held slot.old) result (view items room table.new) (held slot.new) }
+    ensures { Moved (view H.items H.room table.old) article amount (held slot.old) result (view H.items H.room table.new) (held slot.new) }
 {
     let ticket = table.open()?;
     let time = match table.write(&ticket, article, ADD, amount) {
@@ -63,7 +63,7 @@ pub(crate) fn offer_article<H: History>(
     article: u8,
     slot: &mut Slot,
 ) -> Result<Answer, TableFault>
-    ensures { Offered (view items room table.now) peer article (held slot.old) result (held slot.new) }
+    ensures { Offered (view H.items H.room table.now) peer article (held slot.old) result (held slot.new) }
 {
     let length = table.offer(peer, article, &mut slot.bytes)?;
     slot.used = length;
@@ -74,7 +74,7 @@ pub(crate) fn figure_shown<H: History>(
     table: &Table<OnHand, H>,
     article: u8,
 ) -> Result<Answer, TableFault>
-    ensures { answered result ≡ figured (view items room table.now) article }
+    ensures { answered result ≡ figured (view H.items H.room table.now) article }
 {
     let figure = table.figure(article)?;
     Ok(Answer::Figure(figure))
@@ -85,7 +85,7 @@ pub(crate) fn open_item_shown<H: History>(
     peer: u8,
     article: u8,
 ) -> Result<Answer, TableFault>
-    ensures { answered result ≡ flagged (view items room table.now) peer article }
+    ensures { answered result ≡ flagged (view H.items H.room table.now) peer article }
 {
     let is_open = table.open_item(article, peer)?;
     Ok(Answer::Number(u64::from(is_open)))

@@ -9,7 +9,7 @@ use row::{least_entry, move_actions};
 
 impl<K: Kind, H: History> Table<K, H> {
     pub(crate) fn archive_article(&mut self, article: u8) -> Result<usize, TableFault>
-        ensures { Archived means (view items room self.old) article result (view items room self.new) }
+        ensures { Archived K.means (view H.items H.room self.old) article result (view H.items H.room self.new) }
     {
         if self.state.is_open {
             return Err(TableFault::AlreadyOpen);

@@ -18,8 +18,8 @@ use kind::Kind;
 impl<K: Kind, H: History> Table<K, H> {
     // Opens a transaction and hands out its ticket.
     pub fn open(&mut self) -> Result<Ticket, TableFault>
-        ensures does { Opened means (view items room self.old) result (view items room self.new) }
-        ensures sound { Sound means (view items room self.old) → Sound means (view items room self.new) }
+        ensures does { Opened K.means (view H.items H.room self.old) result (view H.items H.room self.new) }
+        ensures sound { Sound K.means (view H.items H.room self.old) → Sound K.means (view H.items H.room self.new) }
     {
         self.begin()
     }
@@ -32,8 +32,8 @@ impl<K: Kind, H: History> Table<K, H> {
         operation: u8,
         amount: i32,
     ) -> Result<u32, TableFault>
-        ensures does { Wrote means (view items room self.old) ticket.now article operation amount result (view items room self.new) }
-        ensures sound { Sound means (view items room self.old) → Sound means (view items room self.new) }
+        ensures does { Wrote K.means (view H.items H.room self.old) ticket.now article operation amount result (view H.items H.room self.new) }
+        ensures sound { Sound K.means (view H.items H.room self.old) → Sound K.means (view H.items H.room self.new) }
     {
         self.add(ticket, article, operation, amount)
     }
@@ -45,17 +45,17 @@ impl<K: Kind, H: History> Table<K, H> {
         ticket: Ticket,
         buffer: &mut [u8],
     ) -> Result<(usize, usize), (TableFault, Ticket)>
-        ensures does { Committed means (view items room self.old) ticket buffer.old result (view items room self.new) buffer.new }
-        ensures sound { Sound means (view items room self.old) → Sound means (view items room self.new) }
-        ensures lawful { Sound means (view items room self.old) → 0 < self.old.state.writes → LawfulMessage means self.old.state.setup (transaction_message means (view items room self.old)) }
+        ensures does { Committed K.means (view H.items H.room self.old) ticket buffer.old result (view H.items H.room self.new) buffer.new }
+        ensures sound { Sound K.means (view H.items H.room self.old) → Sound K.means (view H.items H.room self.new) }
+        ensures lawful { Sound K.means (view H.items H.room self.old) → 0 < self.old.state.writes → LawfulMessage K.means self.old.state.setup (transaction_message K.means (view H.items H.room self.old)) }
     {
         self.finish(ticket, buffer)
     }
 
     // Drops the pending actions and spends the ticket; the clock stays.
     pub fn abandon(&mut self, ticket: Ticket) -> Result<(), (TableFault, Ticket)>
-        ensures does { Abandoned means (view items room self.old) ticket result (view items room self.new) }
-        ensures sound { Sound means (view items room self.old) → Sound means (view items room self.new) }
+        ensures does { Abandoned K.means (view H.items H.room self.old) ticket result (view H.items H.room self.new) }
+        ensures sound { Sound K.means (view H.items H.room self.old) → Sound K.means (view H.items H.room self.new) }
     {
         self.cancel(ticket)
     }
@@ -63,16 +63,16 @@ impl<K: Kind, H: History> Table<K, H> {
     // Writes, for a peer and an article, all that the peer is not known to have: an interval for
     // each site and the history's actions in them. Answers the length.
     pub fn offer(&self, peer: u8, article: u8, buffer: &mut [u8]) -> Result<usize, TableFault>
-        ensures does { Offered means (view items room self.now) peer article buffer.old result buffer.new }
-        ensures lawful { Sound means (view items room self.now) → article < self.now.state.setup.articles → LawfulMessage means self.now.state.setup (offer_message means (view items room self.now) peer article) }
+        ensures does { Offered K.means (view H.items H.room self.now) peer article buffer.old result buffer.new }
+        ensures lawful { Sound K.means (view H.items H.room self.now) → article < self.now.state.setup.articles → LawfulMessage K.means self.now.state.setup (offer_message K.means (view H.items H.room self.now) peer article) }
     {
         self.write_offer(peer, article, buffer)
     }
 
     // Takes a message whole, or refuses it and changes nothing. Answers how many of its actions were new.
     pub fn take(&mut self, bytes: &[u8]) -> Result<usize, TableFault>
-        ensures does { Took means (view items room self.old) bytes.now result (view items room self.new) }
-        ensures sound { Sound means (view items room self.old) → Sound means (view items room self.new) }
+        ensures does { Took K.means (view H.items H.room self.old) bytes.now result (view H.items H.room self.new) }
+        ensures sound { Sound K.means (view H.items H.room self.old) → Sound K.means (view H.items H.room self.new) }
     {
         self.take_message(bytes)
     }
@@ -80,8 +80,8 @@ impl<K: Kind, H: History> Table<K, H> {
     // Works the actions on an article that every site is known to have into its base, and removes them
     // from the history. Answers how many they were.
     pub fn archive(&mut self, article: u8) -> Result<usize, TableFault>
-        ensures does { Archived means (view items room self.old) article result (view items room self.new) }
-        ensures sound { Sound means (view items room self.old) → Sound means (view items room self.new) }
+        ensures does { Archived K.means (view H.items H.room self.old) article result (view H.items H.room self.new) }
+        ensures sound { Sound K.means (view H.items H.room self.old) → Sound K.means (view H.items H.room self.new) }
     {
         self.archive_article(article)
     }

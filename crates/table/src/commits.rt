@@ -13,8 +13,8 @@ use row::{append, raise_rows, work_rows};
 impl<K: Kind, H: History> Table<K, H> {
     // Writes the transaction's message where there were writes and it fits, and answers its length.
     fn send(&self, buffer: &mut [u8]) -> usize
-        ensures length { result ≡ length (fitting (transaction_bytes means (view items room self.now)) buffer.old) }
-        ensures bytes { buffer.new ≡ overwritten buffer.old 0 (fitting (transaction_bytes means (view items room self.now)) buffer.old) }
+        ensures length { result ≡ length (fitting (transaction_bytes K.means (view H.items H.room self.now)) buffer.old) }
+        ensures bytes { buffer.new ≡ overwritten buffer.old 0 (fitting (transaction_bytes K.means (view H.items H.room self.now)) buffer.old) }
     {
         if self.state.writes == 0 {
             return 0;
@@ -29,8 +29,8 @@ impl<K: Kind, H: History> Table<K, H> {
 
     // Records the pending actions, and ends the transaction.
     fn post(&mut self)
-        requires { length (items self.old.history) + self.old.state.writes ≤ room self.old.history }
-        ensures { view items room self.new ≡ committed means (view items room self.old) }
+        requires { length (H.items self.old.history) + self.old.state.writes ≤ H.room self.old.history }
+        ensures { view H.items H.room self.new ≡ committed K.means (view H.items H.room self.old) }
     {
         let writes = self.state.writes;
         let pending = self.state.pending;
@@ -48,7 +48,7 @@ impl<K: Kind, H: History> Table<K, H> {
         ticket: Ticket,
         buffer: &mut [u8],
     ) -> Result<(usize, usize), (TableFault, Ticket)>
-        ensures { Committed means (view items room self.old) ticket buffer.old result (view items room self.new) buffer.new }
+        ensures { Committed K.means (view H.items H.room self.old) ticket buffer.old result (view H.items H.room self.new) buffer.new }
     {
         if !self.holds(&ticket) {
             return Err((TableFault::NotItsTicket, ticket));

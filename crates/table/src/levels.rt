@@ -16,8 +16,8 @@ use row::{Test, count_new, first_interval, insert_new, record_rows};
 impl<K: Kind, H: History> Table<K, H> {
     // Records what a message carries. What is new is judged by the entries before they are raised.
     fn absorb(&mut self, bytes: &[u8])
-        requires { (length (items self.old.history) + length (filter (is_new_in self.old.state.rows self.old.state.setup.own) (actions_of (records_in bytes.now))) ≤ room self.old.history) × (fold (λ t h. max t h.1.to) self.old.state.clock (intervals_of 0 (records_in bytes.now)) + self.old.state.writes ≤ 4000000000) }
-        ensures { (m : Message) → records_in bytes.now ≡ records m → view items room self.new ≡ taken means (view items room self.old) m }
+        requires { (length (H.items self.old.history) + length (filter (is_new_in self.old.state.rows self.old.state.setup.own) (actions_of (records_in bytes.now))) ≤ H.room self.old.history) × (fold (λ t h. max t h.1.to) self.old.state.clock (intervals_of 0 (records_in bytes.now)) + self.old.state.writes ≤ 4000000000) }
+        ensures { (m : Message) → records_in bytes.now ≡ records m → view H.items H.room self.new ≡ taken K.means (view H.items H.room self.old) m }
     {
         let own = self.state.setup.own;
         let sender = sender_of(bytes);
@@ -28,7 +28,7 @@ impl<K: Kind, H: History> Table<K, H> {
     }
 
     pub(crate) fn take_message(&mut self, bytes: &[u8]) -> Result<usize, TableFault>
-        ensures { Took means (view items room self.old) bytes.now result (view items room self.new) }
+        ensures { Took K.means (view H.items H.room self.old) bytes.now result (view H.items H.room self.new) }
     {
         if self.state.is_open {
             return Err(TableFault::AlreadyOpen);

@@ -12,8 +12,8 @@ use std::marker::PhantomData;
 
 // Takes every action out, the last one first.
 fn empty<H: History>(history: &mut H)
-    ensures items { items history.new ≡ [] }
-    ensures room { room history.new ≡ room history.old }
+    ensures items { H.items history.new ≡ [] }
+    ensures room { H.room history.new ≡ H.room history.old }
 {
     let mut left = history.count();
     while left > 0 {
@@ -25,8 +25,8 @@ fn empty<H: History>(history: &mut H)
 impl<K: Kind, H: History> Table<K, H> {
     // A new table over a history, which is emptied first. It is never refused.
     pub fn new(setup: Setup, mut history: H) -> Table<K, H>
-        ensures does { view items room result ≡ fresh means setup (room history) }
-        ensures sound { Sound means (view items room result) }
+        ensures does { view H.items H.room result ≡ fresh K.means setup (H.room history) }
+        ensures sound { Sound K.means (view H.items H.room result) }
     {
         empty(&mut history);
         let start = K::start();

@@ -18,7 +18,7 @@ impl<K: Kind, H: History> Table<K, H> {
     // Does an offer to the peer carry this action?
     fn is_offered(&self, peer: u8, article: u8, action: &Action) -> bool
         requires { (peer < 8) × (article < 64) }
-        ensures { result ≡ is_offered (view items room self.now) peer article action.now }
+        ensures { result ≡ is_offered (view H.items H.room self.now) peer article action.now }
     {
         if action.article != article || action.coordinator >= self.state.setup.sites {
             return false;
@@ -32,7 +32,7 @@ impl<K: Kind, H: History> Table<K, H> {
     // How many actions an offer to the peer carries.
     fn count_offered(&self, peer: u8, article: u8) -> Result<usize, TableFault>
         requires { (peer < 8) × (article < 64) }
-        ensures value { result ≡ Granted (length (filter (is_offered (view items room self.now) peer article) (items self.now.history))) }
+        ensures value { result ≡ Granted (length (filter (is_offered (view H.items H.room self.now) peer article) (H.items self.now.history))) }
         ensures few { IfOk result (λ n. n ≤ 1024) }
     {
         let mut carried = 0;
@@ -49,7 +49,7 @@ impl<K: Kind, H: History> Table<K, H> {
     fn put_intervals(&self, peer: u8, article: u8, buffer: &mut [u8], start: usize) -> usize
         requires { (peer < 8) × ((article < 64) × (start + 10 * self.now.state.setup.sites ≤ length buffer.old)) }
         ensures end { result ≡ start + 10 * self.now.state.setup.sites }
-        ensures bytes { buffer.new ≡ overwritten buffer.old start (flat_map interval_bytes (map (offer_interval (view items room self.now) peer article) (range_with_len 0 self.now.state.setup.sites))) }
+        ensures bytes { buffer.new ≡ overwritten buffer.old start (flat_map interval_bytes (map (offer_interval (view H.items H.room self.now) peer article) (range_with_len 0 self.now.state.setup.sites))) }
     {
         let setup = self.state.setup;
         let mut at = start;
@@ -73,9 +73,9 @@ impl<K: Kind, H: History> Table<K, H> {
         buffer: &mut [u8],
         start: usize,
     ) -> Result<usize, TableFault>
-        requires { (peer < 8) × ((article < 64) × (start + 16 * length (filter (is_offered (view items room self.now) peer article) (items self.now.history)) ≤ length buffer.old)) }
-        ensures end { result ≡ Granted (start + 16 * length (filter (is_offered (view items room self.now) peer article) (items self.now.history))) }
-        ensures bytes { buffer.new ≡ overwritten buffer.old start (flat_map action_bytes (filter (is_offered (view items room self.now) peer article) (items self.now.history))) }
+        requires { (peer < 8) × ((article < 64) × (start + 16 * length (filter (is_offered (view H.items H.room self.now) peer article) (H.items self.now.history)) ≤ length buffer.old)) }
+        ensures end { result ≡ Granted (start + 16 * length (filter (is_offered (view H.items H.room self.now) peer article) (H.items self.now.history))) }
+        ensures bytes { buffer.new ≡ overwritten buffer.old start (flat_map action_bytes (filter (is_offered (view H.items H.room self.now) peer article) (H.items self.now.history))) }
     {
         let mut at = start;
         for i in 0..self.history.count() {
@@ -93,7 +93,7 @@ impl<K: Kind, H: History> Table<K, H> {
         article: u8,
         buffer: &mut [u8],
     ) -> Result<usize, TableFault>
-        ensures { Offered means (view items room self.now) peer article buffer.old result buffer.new }
+        ensures { Offered K.means (view H.items H.room self.now) peer article buffer.old result buffer.new }
     {
         let setup = self.state.setup;
         if article >= setup.articles {

@@ -18,9 +18,9 @@ use message::{Header, Interval, Record, SectionHead};
 impl<K: Kind, H: History> Table<K, H> {
     // How many pending actions the article has, and the last time on it.
     fn written(&self, article: u8) -> (usize, u32)
-        ensures count { result.0 ≡ length (on article (view items room self.now).pending) }
+        ensures count { result.0 ≡ length (on article (view H.items H.room self.now).pending) }
         ensures few { result.0 ≤ 16 }
-        ensures last { result.1 ≡ latest article (view items room self.now).pending }
+        ensures last { result.1 ≡ latest article (view H.items H.room self.now).pending }
     {
         let mut count = 0;
         let mut last: u32 = 0;
@@ -36,9 +36,9 @@ impl<K: Kind, H: History> Table<K, H> {
 
     // Puts the pending actions on the article.
     fn put_written(&self, article: u8, buffer: &mut [u8], start: usize) -> usize
-        requires { start + 16 * length (on article (view items room self.now).pending) ≤ length buffer.old }
-        ensures end { result ≡ start + 16 * length (on article (view items room self.now).pending) }
-        ensures bytes { buffer.new ≡ overwritten buffer.old start (flat_map action_bytes (on article (view items room self.now).pending)) }
+        requires { start + 16 * length (on article (view H.items H.room self.now).pending) ≤ length buffer.old }
+        ensures end { result ≡ start + 16 * length (on article (view H.items H.room self.now).pending) }
+        ensures bytes { buffer.new ≡ overwritten buffer.old start (flat_map action_bytes (on article (view H.items H.room self.now).pending)) }
     {
         let mut at = start;
         for i in 0..self.state.writes {
@@ -52,9 +52,9 @@ impl<K: Kind, H: History> Table<K, H> {
 
     // Puts the section of an article that was written.
     fn put_section(&self, article: u8, buffer: &mut [u8], start: usize) -> usize
-        requires { (article < 64) × (start + length (section_format (transaction_section (view items room self.now) article)) ≤ length buffer.old) }
-        ensures end { result ≡ start + length (section_format (transaction_section (view items room self.now) article)) }
-        ensures bytes { buffer.new ≡ overwritten buffer.old start (section_format (transaction_section (view items room self.now) article)) }
+        requires { (article < 64) × (start + length (section_format (transaction_section (view H.items H.room self.now) article)) ≤ length buffer.old) }
+        ensures end { result ≡ start + length (section_format (transaction_section (view H.items H.room self.now) article)) }
+        ensures bytes { buffer.new ≡ overwritten buffer.old start (section_format (transaction_section (view H.items H.room self.now) article)) }
     {
         let (count, last) = self.written(article);
         let own = self.state.setup.own;
@@ -76,9 +76,9 @@ impl<K: Kind, H: History> Table<K, H> {
 
     // How many sections the message has, and its length.
     pub(crate) fn measure(&self) -> (usize, usize)
-        ensures sections { result.0 ≡ length (written_articles (view items room self.now)) }
+        ensures sections { result.0 ≡ length (written_articles (view H.items H.room self.now)) }
         ensures few { result.0 ≤ 64 }
-        ensures bytes { result.1 ≡ length (format (transaction_message means (view items room self.now))) }
+        ensures bytes { result.1 ≡ length (format (transaction_message K.means (view H.items H.room self.now))) }
     {
         let mut sections = 0;
         let mut length = 6;
@@ -94,8 +94,8 @@ impl<K: Kind, H: History> Table<K, H> {
 
     // Puts the sections, in the order of their articles.
     fn put_sections(&self, buffer: &mut [u8], start: usize)
-        requires { start + length (flat_map section_format (map (transaction_section (view items room self.now)) (written_articles (view items room self.now)))) ≤ length buffer.old }
-        ensures { buffer.new ≡ overwritten buffer.old start (flat_map section_format (map (transaction_section (view items room self.now)) (written_articles (view items room self.now)))) }
+        requires { start + length (flat_map section_format (map (transaction_section (view H.items H.room self.now)) (written_articles (view H.items H.room self.now)))) ≤ length buffer.old }
+        ensures { buffer.new ≡ overwritten buffer.old start (flat_map section_format (map (transaction_section (view H.items H.room self.now)) (written_articles (view H.items H.room self.now)))) }
     {
         let mut at = start;
         for article in 0..self.state.setup.articles {
@@ -108,8 +108,8 @@ impl<K: Kind, H: History> Table<K, H> {
 
     // Puts the message, of so many sections.
     pub(crate) fn put_transaction(&self, sections: usize, buffer: &mut [u8])
-        requires { (sections ≡ length (written_articles (view items room self.now))) × ((sections ≤ 64) × (length (format (transaction_message means (view items room self.now))) ≤ length buffer.old)) }
-        ensures { buffer.new ≡ overwritten buffer.old 0 (format (transaction_message means (view items room self.now))) }
+        requires { (sections ≡ length (written_articles (view H.items H.room self.now))) × ((sections ≤ 64) × (length (format (transaction_message K.means (view H.items H.room self.now))) ≤ length buffer.old)) }
+        ensures { buffer.new ≡ overwritten buffer.old 0 (format (transaction_message K.means (view H.items H.room self.now))) }
     {
         let setup = self.state.setup;
         let header = Header {

@@ -11,7 +11,7 @@ use kind::Kind;
 
 impl<K: Kind, H: History> Table<K, H> {
     pub(crate) fn begin(&mut self) -> Result<Ticket, TableFault>
-        ensures { Opened means (view items room self.old) result (view items room self.new) }
+        ensures { Opened K.means (view H.items H.room self.old) result (view H.items H.room self.new) }
     {
         if self.state.is_open {
             return Err(TableFault::AlreadyOpen);
@@ -27,7 +27,7 @@ impl<K: Kind, H: History> Table<K, H> {
 
     // Is this the ticket of the open transaction?
     pub(crate) fn holds(&self, ticket: &Ticket) -> bool
-        ensures { result ≡ holds means (view items room self.now) ticket.now }
+        ensures { result ≡ holds K.means (view H.items H.room self.now) ticket.now }
     {
         self.state.is_open
             && ticket.group == self.state.setup.group
@@ -43,7 +43,7 @@ impl<K: Kind, H: History> Table<K, H> {
         operation: u8,
         amount: i32,
     ) -> Result<u32, TableFault>
-        ensures { Wrote means (view items room self.old) ticket.now article operation amount result (view items room self.new) }
+        ensures { Wrote K.means (view H.items H.room self.old) ticket.now article operation amount result (view H.items H.room self.new) }
     {
         if !self.holds(ticket) {
             return Err(TableFault::NotItsTicket);
@@ -75,7 +75,7 @@ impl<K: Kind, H: History> Table<K, H> {
     }
 
     pub(crate) fn cancel(&mut self, ticket: Ticket) -> Result<(), (TableFault, Ticket)>
-        ensures { Abandoned means (view items room self.old) ticket result (view items room self.new) }
+        ensures { Abandoned K.means (view H.items H.room self.old) ticket result (view H.items H.room self.new) }
     {
         if !self.holds(&ticket) {
             return Err((TableFault::NotItsTicket, ticket));

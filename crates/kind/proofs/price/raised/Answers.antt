@@ -2,8 +2,8 @@ use Rattle.std.proofs.Common.{rules}
 use Rattle.kind.proofs.PriceLaws.{product_fits, raised_is}
 use Rattle.kind.proofs.price.raised.Goals as goal
 
-pub overflow-mul-cents : goal.overflow-mul-cents
-overflow-mul-cents c =
+pub overflow_mul-cents : goal.overflow_mul-cents
+overflow_mul-cents c =
     product_fits c.args.figure c.held.result c.args.thousandths (search rules) (search rules) (search rules) (search rules) (search rules) c.held.ensures
 
 pub returns : goal.returns

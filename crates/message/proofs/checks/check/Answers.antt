@@ -9,9 +9,9 @@ returns g c =
     let bytes = c.args.bytes.now in
     let r = c.scan.result in
     record {
-      accepted = scan_accepted kind setup bytes (λ i. (c.type-inv.bytes i).fits) r c.scan.ensures;
-      accepts = scan_accepts kind setup small bytes (λ i. (c.type-inv.bytes i).fits) r c.scan.ensures;
+      accepted = scan_accepted kind setup bytes (λ i. (c.type_inv.bytes i).fits) r c.scan.ensures;
+      accepts = scan_accepts kind setup small bytes (λ i. (c.type_inv.bytes i).fits) r c.scan.ensures;
       unique = messages_unique kind setup small bytes;
-      refused = scan_refused kind setup bytes (λ i. (c.type-inv.bytes i).fits) r c.scan.ensures;
-      longest = scan_longest kind setup bytes (λ i. (c.type-inv.bytes i).fits) r c.scan.ensures;
+      refused = scan_refused kind setup bytes (λ i. (c.type_inv.bytes i).fits) r c.scan.ensures;
+      longest = scan_longest kind setup bytes (λ i. (c.type_inv.bytes i).fits) r c.scan.ensures;
     }

@@ -11,7 +11,7 @@ loop-found-init g c =
     let kind = g.K.Kind.means in
     let reader = c.new-reader.result in
     let bytes = c.args.bytes.now in
-    let start = begun_none kind reader.setup bytes (λ i. (c.type-inv.bytes i).fits) in
+    let start = begun_none kind reader.setup bytes (λ i. (c.type_inv.bytes i).fits) in
     let e = c.new-reader.ensures in (
       refl,
       e.bytes,
@@ -19,20 +19,20 @@ loop-found-init g c =
       subst (λ p. (b : Begun kind reader.setup bytes reader.at p) × (◌≡◌ {A = ℕ} 0 (count_by is_action b.records))) (sym e.progress) (subst (λ (n : ℕ). (b : Begun kind reader.setup bytes n _) × (◌≡◌ {A = ℕ} 0 (count_by is_action b.records))) (sym e.at) (start, refl)),
     )
 
-pub loop-found-preserved-then-is-action : goal.loop-found-preserved-then-is-action
-loop-found-preserved-then-is-action g c =
+pub loop-found-preserved-then-is_action : goal.loop-found-preserved-then-is_action
+loop-found-preserved-then-is_action g c =
     let kind = g.K.Kind.means in
     let reader = c.loop-found.reader in
     let inv = c.loop-found.invariant in
     let last = c.next.new.self in
     let f = c.in-Some.found in
     let bytes = c.args.bytes.now in
-    let next = subst (λ o. Next kind reader.setup reader.progress reader.at reader.bytes.now (Ok o) last.progress last.at) c.in-Some.is c.in-ok-found.ensures.does in
-    let more = read_more kind c.new-reader.result.setup bytes (λ i. (c.type-inv.bytes i).fits) reader.setup inv.0 reader.bytes.now inv.1 reader.at last.at reader.progress last.progress f inv.3.0 next in (
+    let next = subst (λ o. Next kind reader.setup reader.progress reader.at reader.bytes.now (Ok o) last.progress last.at) c.in-Some.is c.in_ok-found.ensures.does in
+    let more = read_more kind c.new-reader.result.setup bytes (λ i. (c.type_inv.bytes i).fits) reader.setup inv.0 reader.bytes.now inv.1 reader.at last.at reader.progress last.progress f inv.3.0 next in (
       c.next.ensures.setup ∙ inv.0,
       c.next.ensures.bytes ∙ inv.1,
       omega (arith, next.2, record_size f.«record»),
-      (more.0, omega (arith, inv.3.1, counted_more inv.3.0.records more.0.records f.«record» true more.1 c.if-is-action.ensures)),
+      (more.0, omega (arith, inv.3.1, counted_more inv.3.0.records more.0.records f.«record» true more.1 c.if-is_action.ensures)),
     )
 
 pub loop-found-preserved : goal.loop-found-preserved
@@ -43,12 +43,12 @@ loop-found-preserved g c =
     let last = c.next.new.self in
     let f = c.in-Some.found in
     let bytes = c.args.bytes.now in
-    let next = subst (λ o. Next kind reader.setup reader.progress reader.at reader.bytes.now (Ok o) last.progress last.at) c.in-Some.is c.in-ok-found.ensures.does in
-    let more = read_more kind c.new-reader.result.setup bytes (λ i. (c.type-inv.bytes i).fits) reader.setup inv.0 reader.bytes.now inv.1 reader.at last.at reader.progress last.progress f inv.3.0 next in (
+    let next = subst (λ o. Next kind reader.setup reader.progress reader.at reader.bytes.now (Ok o) last.progress last.at) c.in-Some.is c.in_ok-found.ensures.does in
+    let more = read_more kind c.new-reader.result.setup bytes (λ i. (c.type_inv.bytes i).fits) reader.setup inv.0 reader.bytes.now inv.1 reader.at last.at reader.progress last.progress f inv.3.0 next in (
       c.next.ensures.setup ∙ inv.0,
       c.next.ensures.bytes ∙ inv.1,
       omega (arith, next.2),
-      (more.0, omega (arith, inv.3.1, counted_more inv.3.0.records more.0.records f.«record» false more.1 c.if-is-action.ensures)),
+      (more.0, omega (arith, inv.3.1, counted_more inv.3.0.records more.0.records f.«record» false more.1 c.if-is_action.ensures)),
     )
 
 pub returns : goal.returns
@@ -59,6 +59,6 @@ returns g c =
     let last = c.next.new.self in
     let bytes = c.args.bytes.now in
     let setup = c.new-reader.result.setup in
-    let next = subst (λ o. Next kind reader.setup reader.progress reader.at reader.bytes.now (Ok o) last.progress last.at) c.in-default.is c.in-ok-found.ensures.does in
+    let next = subst (λ o. Next kind reader.setup reader.progress reader.at reader.bytes.now (Ok o) last.progress last.at) c.in_default.is c.in_ok-found.ensures.does in
     subst (λ s. Scanned kind s bytes (Ok c.loop-found.actions)) c.new-reader.ensures.setup
-    (reader.progress, reader.at, inv.3.0, read_all kind setup bytes (λ i. (c.type-inv.bytes i).fits) reader.setup inv.0 reader.bytes.now inv.1 reader.at last.at reader.progress last.progress next, inv.3.1)
+    (reader.progress, reader.at, inv.3.0, read_all kind setup bytes (λ i. (c.type_inv.bytes i).fits) reader.setup inv.0 reader.bytes.now inv.1 reader.at last.at reader.progress last.progress next, inv.3.1)

@@ -13,6 +13,6 @@ returns-then-at-bytes c =
 pub returns : goal.returns
 returns c =
     record {
-      value = c.first-record.ensures.value ∙ ap record_in (take_rest c.args.bytes.now c.args.at);
-      fits = λ h. omega (arith, c.first-record.ensures.fits, ap length (take_rest c.args.bytes.now c.args.at), length-drop c.args.at c.args.bytes.now);
+      value = c.first_record.ensures.value ∙ ap record_in (take_rest c.args.bytes.now c.args.at);
+      fits = λ h. omega (arith, c.first_record.ensures.fits, ap length (take_rest c.args.bytes.now c.args.at), length-drop c.args.at c.args.bytes.now);
     }

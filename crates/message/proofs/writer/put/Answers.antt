@@ -5,4 +5,4 @@ use Rattle.message.proofs.writer.put.Goals as goal
 
 pub returns-in-Action : goal.returns-in-Action
 returns-in-Action c =
-    subst (λ r. Put c.args.buffer.now c.args.at (record_bytes r) c.put-action.result c.put-action.new.buffer) (sym c.in-Action.is) c.put-action.ensures
+    subst (λ r. Put c.args.buffer.now c.args.at (record_bytes r) c.put_action.result c.put_action.new.buffer) (sym c.in-Action.is) c.put_action.ensures

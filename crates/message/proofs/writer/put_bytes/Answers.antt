@@ -10,5 +10,5 @@ returns c =
     let size : at + length bytes - at ≡ length bytes = omega arith in (
       refl,
       omega arith,
-      ap (λ ys. take at buffer ++ (ys ++ drop (at + length bytes - at) (drop at buffer))) c.copy-from-slice.ensures.after ∙ ap (λ k. take at buffer ++ (bytes ++ k)) (ap (λ k. drop k (drop at buffer)) size ∙ drop-drop (length bytes) at buffer),
+      ap (λ ys. take at buffer ++ (ys ++ drop (at + length bytes - at) (drop at buffer))) c.copy_from_slice.ensures.after ∙ ap (λ k. take at buffer ++ (bytes ++ k)) (ap (λ k. drop k (drop at buffer)) size ∙ drop-drop (length bytes) at buffer),
     )

@@ -9,8 +9,8 @@ use Rattle.history.specs.Strips.{strip_items}
 use Rattle.history.proofs.Places.{length_strip, strip_put, rest_put}
 use Rattle.history.proofs.strips.Strip.put_in.Goals as goal
 
-pub invariant-of-self : goal.invariant-of-self
-invariant-of-self c = search (rules, length_strip)
+pub invariant_of-self : goal.invariant_of-self
+invariant_of-self c = search (rules, length_strip)
 
 pub returns : goal.returns
 returns c =
@@ -19,18 +19,18 @@ returns c =
     let n = c.args.self.now.used in
     let k = i * 16 + 16 - i * 16 in
     let xs = vec_items c.args.self.now.bytes in
-    let ws = c.deref-mut.result.now in
-    let rs = c.copy-from-slice.new.self in
+    let ws = c.deref_mut.result.now in
+    let rs = c.copy_from_slice.new.self in
     let time : a.time < 2 ^ 32 = search rules in
     let transaction : a.transaction < 2 ^ 32 = search rules in
     let amount : SFits w32 a.amount = search rules in
     let within : i ≤ n = omega arith in
     let room : n * 16 + 16 ≤ length xs = omega arith in
     let size : k ≡ 16 = omega arith in
-    let moved : ws ≡ paste xs (i * 16 + 16) (drop (i * 16) xs) (n * 16 - i * 16) = c.deref-mut.ensures.value ∙ c.copy-within.ensures.items in
-    let written : rs ≡ action_bytes a = c.copy-from-slice.ensures.after ∙ c.to-bytes.ensures in
-    let long = same_len_mid (i * 16) k ws rs c.copy-from-slice.ensures.len ∙ c.deref-mut.ensures.len in
-    let is = with_items_is c.copy-within.new.self (put_mid (i * 16) k ws rs) long in
+    let moved : ws ≡ paste xs (i * 16 + 16) (drop (i * 16) xs) (n * 16 - i * 16) = c.deref_mut.ensures.value ∙ c.copy_within.ensures.items in
+    let written : rs ≡ action_bytes a = c.copy_from_slice.ensures.after ∙ c.to_bytes.ensures in
+    let long = same_len_mid (i * 16) k ws rs c.copy_from_slice.ensures.len ∙ c.deref_mut.ensures.len in
+    let is = with_items_is c.copy_within.new.self (put_mid (i * 16) k ws rs) long in
     record {
       items = ap (strip_items (n + 1)) is ∙ strip_put n i k xs ws rs a within room size moved written (action_back a time transaction amount);
       rest = ap (drop ((n + 1) * 16)) is ∙ rest_put n i k xs ws rs a within room size moved written;
