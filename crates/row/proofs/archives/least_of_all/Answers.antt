@@ -7,7 +7,7 @@ pub loop-z-preserved : goal.loop-z-preserved
 loop-z-preserved c =
     let rows = c.args.rows.now in
     let lower = least_of_in rows c.args.sites c.args.article in
-    c.least-of-least.ensures ∙ ap (λ t. lower t c.loop-z.z) c.loop-z.invariant ∙ sym (counted_more lower c.args.time c.args.sites c.loop-z.z c.loop-z-test.true)
+    c.least_of-least.ensures ∙ ap (λ t. lower t c.loop-z.z) c.loop-z.invariant ∙ sym (counted_more lower c.args.time c.args.sites c.loop-z.z c.loop-z-test.true)
 
 pub returns : goal.returns
 returns c =

@@ -8,7 +8,7 @@ use Rattle.row.proofs.posts.raise_rows.Goals as goal
 pub loop-action-preserved : goal.loop-action-preserved
 loop-action-preserved c =
     let f = on_row (λ x. raised_row c.args.own c.args.own x.time) in
-    c.raise-row.ensures ∙ ap (λ l. f l (get_or c.args.actions.now c.loop-action.action-index no_action)) c.loop-action.invariant ∙ sym (fold_more f c.args.rows.now c.args.actions.now c.loop-action.action-index no_action c.loop-action-test.true)
+    c.raise_row.ensures ∙ ap (λ l. f l (get_or c.args.actions.now c.loop-action.action-index no_action)) c.loop-action.invariant ∙ sym (fold_more f c.args.rows.now c.args.actions.now c.loop-action.action-index no_action c.loop-action-test.true)
 
 pub returns : goal.returns
 returns c =

@@ -10,7 +10,7 @@ loop-i-preserved g c =
     let xs = g.H.History.items c.args.history.now in
     let within : c.loop-i.i < length xs = omega arith in
     let action = c.place-action.result in
-    c.step-row.ensures ∙ (λ j. f (c.loop-i.invariant j) (c.place-action.ensures j)) ∙ sym (fold_more f c.restart.new.rows xs c.loop-i.i action within)
+    c.step_row.ensures ∙ (λ j. f (c.loop-i.invariant j) (c.place-action.ensures j)) ∙ sym (fold_more f c.restart.new.rows xs c.loop-i.i action within)
 
 pub returns : goal.returns
 returns g c =

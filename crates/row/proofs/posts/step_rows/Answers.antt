@@ -8,7 +8,7 @@ use Rattle.row.proofs.posts.step_rows.Goals as goal
 pub loop-action-preserved : goal.loop-action-preserved
 loop-action-preserved g c =
     let f = on_row (stepped_row g.K.Kind.means.steps) in
-    c.step-row.ensures ∙ ap (λ l. f l (get_or c.args.actions.now c.loop-action.action-index no_action)) c.loop-action.invariant ∙ sym (fold_more f c.args.rows.now c.args.actions.now c.loop-action.action-index no_action c.loop-action-test.true)
+    c.step_row.ensures ∙ ap (λ l. f l (get_or c.args.actions.now c.loop-action.action-index no_action)) c.loop-action.invariant ∙ sym (fold_more f c.args.rows.now c.args.actions.now c.loop-action.action-index no_action c.loop-action-test.true)
 
 pub returns : goal.returns
 returns g c =

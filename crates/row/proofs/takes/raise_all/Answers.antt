@@ -5,7 +5,7 @@ use Rattle.message.specs.Walks.{article_after, intervals_of, records_in}
 use Rattle.message.proofs.Walking.{intervals_none, intervals_some, records_end, records_from}
 use Rattle.row.specs.declared.rows.Row.{Row}
 use Rattle.row.specs.Rows.{raised_rows}
-use Rattle.row.proofs.takes.raise_all.Goals.{in-Some-interval, in-default-interval}
+use Rattle.row.proofs.takes.raise_all.Goals.{in-Some-interval, in_default-interval}
 use Rattle.row.proofs.takes.raise_all.Goals as goal
 
 abbrev later : ℕ → ℕ × Interval → ℕ
@@ -28,12 +28,12 @@ loop-record-preserved c =
       | in-Some-interval w ↦
           let i = w.in-Some-interval.interval in
           let more = intervals_some rest a r i (sym w.in-Some-interval.ensures) in
-          (ap (λ t. fold later t (intervals_of b rest)) (w.time-is ∙ w.max-time.ensures) ∙ ap (fold later c.loop-record.time) (sym more), ap (λ l. fold raise l (intervals_of b rest)) (w.rows-is ∙ w.raise-by.ensures) ∙ ap (fold raise c.loop-record.rows) (sym more))
-      | in-default-interval w ↦
-          let none = intervals_none rest a r (sym w.in-default-interval.ensures) in
+          (ap (λ t. fold later t (intervals_of b rest)) (w.time-is ∙ w.max-time.ensures) ∙ ap (fold later c.loop-record.time) (sym more), ap (λ l. fold raise l (intervals_of b rest)) (w.rows-is ∙ w.raise_by.ensures) ∙ ap (fold raise c.loop-record.rows) (sym more))
+      | in_default-interval w ↦
+          let none = intervals_none rest a r (sym w.in_default-interval.ensures) in
           ((λ j. fold later (w.time-is j) (sym none j)), (λ j. fold raise (w.rows-is j) (sym none j)))
     ] in
-    let there : intervals_of c.article-after-article.result (records_in (drop (at + c.size-at.result) bytes)) ≡ intervals_of b rest = (λ j. intervals_of (c.article-after-article.ensures j) (records_in (drop (at + c.size-at.ensures j) bytes))) in (
+    let there : intervals_of c.article_after-article.result (records_in (drop (at + c.size-at.result) bytes)) ≡ intervals_of b rest = (λ j. intervals_of (c.article_after-article.ensures j) (records_in (drop (at + c.size-at.ensures j) bytes))) in (
       omega (arith, c.size-at.ensures, c.in-Some.ensures.fits c.loop-record.invariant.0),
       ap (fold later time) there ∙ on.0 ∙ ap (λ rs. fold later c.loop-record.time (intervals_of a rs)) (sym next) ∙ c.loop-record.invariant.1,
       ap (fold raise rows) there ∙ on.1 ∙ ap (λ rs. fold raise c.loop-record.rows (intervals_of a rs)) (sym next) ∙ c.loop-record.invariant.2,
@@ -41,7 +41,7 @@ loop-record-preserved c =
 
 pub returns : goal.returns
 returns c =
-    let end = ap (intervals_of c.loop-record.article) (records_end (drop c.loop-record.at c.args.bytes.now) (sym c.in-default.ensures.value)) in
+    let end = ap (intervals_of c.loop-record.article) (records_end (drop c.loop-record.at c.args.bytes.now) (sym c.in_default.ensures.value)) in
     record {
       times = ap (fold later c.loop-record.time) (sym end) ∙ c.loop-record.invariant.1;
       rows = ap (fold (raised_rows c.args.own c.args.sender) c.loop-record.rows) (sym end) ∙ c.loop-record.invariant.2;
