@@ -17,12 +17,12 @@ returns g c m is =
     let v = view {K = g.row.K.Denot} g.H.History.items g.H.History.room c.args.self.now in
     let new : filter (is_new v) (actions_of (records_in c.args.bytes.now)) ≡ news v m = ap (λ rs. filter (is_new v) (actions_of rs)) is ∙ ap (filter (is_new v)) (carried_of m) in
     let hs : intervals_of 0 (records_in c.args.bytes.now) ≡ stretches m = ap (intervals_of 0) is ∙ stretches_of 0 m in
-    let sender : c.sender-of-sender.result ≡ m.sender = c.sender-of-sender.ensures ∙ ap sender_in (record_begins c.args.bytes.now _ _ is) in
-    let history : g.H.History.items c.insert-new.new.history ≡ taken_history v m = c.insert-new.ensures.list ∙ ap (fold _ v.history) new in
+    let sender : c.sender_of-sender.result ≡ m.sender = c.sender_of-sender.ensures ∙ ap sender_in (record_begins c.args.bytes.now _ _ is) in
+    let history : g.H.History.items c.insert_new.new.history ≡ taken_history v m = c.insert_new.ensures.list ∙ ap (fold _ v.history) new in
     let step = on_row (stepped_row kind.steps) in
     let own = s.setup.own in
-    let rows : c.record-rows-self.new.rows ≡ (taken kind v m).rows = c.record-rows-self.ensures.rows ∙ (λ i. cond kind.commutes (fold (raised_rows own (sender i)) (fold step v.rows (new i)) (hs i)) (fold step (map restarted (fold (raised_rows own (sender i)) v.rows (hs i))) (history i))) ∙ recorded_by kind v m kind.commutes ∙ rows_recorded kind v m in
-    let clock : c.record-rows-self.result ≡ (taken kind v m).clock = c.record-rows-self.ensures.times ∙ ap (fold (λ (t : ℕ) (h : ℕ × Interval). max t h.1.to) s.clock) hs in
+    let rows : c.record_rows-self.new.rows ≡ (taken kind v m).rows = c.record_rows-self.ensures.rows ∙ (λ i. cond kind.commutes (fold (raised_rows own (sender i)) (fold step v.rows (new i)) (hs i)) (fold step (map restarted (fold (raised_rows own (sender i)) v.rows (hs i))) (history i))) ∙ recorded_by kind v m kind.commutes ∙ rows_recorded kind v m in
+    let clock : c.record_rows-self.result ≡ (taken kind v m).clock = c.record_rows-self.ensures.times ∙ ap (fold (λ (t : ℕ) (h : ℕ × Interval). max t h.1.to) s.clock) hs in
     λ i. record {
       setup = s.setup;
       clock = clock i;
@@ -30,5 +30,5 @@ returns g c m is =
       pending = take s.writes s.pending;
       rows = rows i;
       history = history i;
-      capacity = c.insert-new.ensures.fixed i;
+      capacity = c.insert_new.ensures.fixed i;
     }

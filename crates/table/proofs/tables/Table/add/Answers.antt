@@ -7,14 +7,14 @@ use Rattle.table.specs.Transactions.{new_action, next_time, with_transaction}
 use Rattle.table.specs.View.{view}
 use Rattle.table.proofs.tables.Table.add.Goals as goal
 
-pub returns-then-at-ge-MOST-WRITES : goal.returns-then-at-ge-MOST-WRITES
-returns-then-at-ge-MOST-WRITES g c =
+pub returns-then-at-ge-MOST_WRITES : goal.returns-then-at-ge-MOST_WRITES
+returns-then-at-ge-MOST_WRITES g c =
     let s = c.args.self.now.state in
     let len : length (take s.writes s.pending) ≡ s.writes = search (rules, length-take-le) in
     (grind (arith, nat_tests), refl)
 
-pub returns-then-before-ge-LATEST-TIME : goal.returns-then-before-ge-LATEST-TIME
-returns-then-before-ge-LATEST-TIME g c =
+pub returns-then-before-ge-LATEST_TIME : goal.returns-then-before-ge-LATEST_TIME
+returns-then-before-ge-LATEST_TIME g c =
     let s = c.args.self.now.state in
     let len : length (take s.writes s.pending) ≡ s.writes = search (rules, length-take-le) in
     (grind (arith, nat_tests), refl)

@@ -16,15 +16,15 @@ returns g c =
     let v = view {K = g.row.K.Denot} g.H.History.items g.H.History.room c.args.self.now in
     let a = c.args.article in
     let r = row v a in
-    let base = c.move-actions-gone.new.base in
-    let time = c.least-entry-time.ensures in
+    let base = c.move_actions-gone.new.base in
+    let time = c.least_entry-time.ensures in
     let old : SFits w64 r.base = search rules in
-    let worked : base ≡ working kind.steps r.base (olds v a) = c.move-actions-gone.ensures.figure ∙ (λ i. working kind.steps (to_z-of_z w64 r.base old i) (filter (is_up_to a (time i)) v.history)) in
+    let worked : base ≡ working kind.steps r.base (olds v a) = c.move_actions-gone.ensures.figure ∙ (λ i. working kind.steps (to_z-of_z w64 r.base old i) (filter (is_up_to a (time i)) v.history)) in
     let new : SFits w64 base = subst (SFits w64) (sym worked) (working_fits kind.steps g.met.K.Kind.step_fits r.base (olds v a) old) in
     let rows : set v.rows a (record { base = to_z w64 (of_z w64 base); kept = r.kept; known = r.known }) ≡ (archived kind v a).rows = ap (λ f. set v.rows a (record { base = f; kept = r.kept; known = r.known })) (to_z-of_z w64 base new ∙ worked) ∙ rows_archived kind v a in
-    let history : g.H.History.items c.move-actions-gone.new.history ≡ (archived kind v a).history = c.move-actions-gone.ensures.list ∙ ap (λ t. filter (λ x. not (is_up_to a t x)) v.history) time in (
+    let history : g.H.History.items c.move_actions-gone.new.history ≡ (archived kind v a).history = c.move_actions-gone.ensures.list ∙ ap (λ t. filter (λ x. not (is_up_to a t x)) v.history) time in (
       grind (arith, nat_tests),
-      c.move-actions-gone.ensures.count ∙ ap (λ t. length (filter (is_up_to a t) v.history)) time,
+      c.move_actions-gone.ensures.count ∙ ap (λ t. length (filter (is_up_to a t) v.history)) time,
       λ i. record {
         setup = s.setup;
         clock = s.clock;
@@ -32,6 +32,6 @@ returns g c =
         pending = take s.writes s.pending;
         rows = rows i;
         history = history i;
-        capacity = c.move-actions-gone.ensures.fixed i;
+        capacity = c.move_actions-gone.ensures.fixed i;
       },
     )

@@ -10,7 +10,7 @@ pub returns : goal.returns
 returns g c =
     let kind = g.K.Kind.means in
     let capacity = g.H.History.room c.args.history in
-    let fits : SFits w64 c.start-start.result = record { sfits = c.start-start.type-inv } in
+    let fits : SFits w64 c.start-start.result = record { sfits = c.start-start.type_inv } in
     let start : to_z w64 (of_z w64 c.start-start.result) ≡ kind.starts = to_z-of_z w64 c.start-start.result fits ∙ c.start-start.ensures in
     let made : ◌≡◌ {A = View} (record {
       setup = c.args.setup;

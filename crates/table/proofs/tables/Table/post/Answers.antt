@@ -16,8 +16,8 @@ returns g c =
     let own = s.setup.own in
     let step = on_row (stepped_row kind.steps) in
     let history : g.H.History.items c.append.new.history ≡ v.history ++ v.pending = c.append.ensures.list ∙ ap (λ l. v.history ++ l) part in
-    let raise : c.raise-rows.new.rows ≡ fold (on_row (λ x. raised_row own own x.time)) v.rows v.pending = c.raise-rows.ensures ∙ ap (fold (on_row (λ x. raised_row own own x.time)) v.rows) part in
-    let rows : c.work-rows.new.rows ≡ (committed kind v).rows = c.work-rows.ensures ∙ (λ i. cond kind.commutes (fold step (raise i) (part i)) (fold step (map restarted (raise i)) (history i))) ∙ rows_posted kind v in
+    let raise : c.raise_rows.new.rows ≡ fold (on_row (λ x. raised_row own own x.time)) v.rows v.pending = c.raise_rows.ensures ∙ ap (fold (on_row (λ x. raised_row own own x.time)) v.rows) part in
+    let rows : c.work_rows.new.rows ≡ (committed kind v).rows = c.work_rows.ensures ∙ (λ i. cond kind.commutes (fold step (raise i) (part i)) (fold step (map restarted (raise i)) (history i))) ∙ rows_posted kind v in
     λ i. record {
       setup = s.setup;
       clock = s.clock + sym long i;

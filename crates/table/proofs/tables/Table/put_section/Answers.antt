@@ -12,8 +12,8 @@ use Rattle.table.specs.View.{entry, view}
 use Rattle.table.proofs.Sections.{length_transaction_section}
 use Rattle.table.proofs.tables.Table.put_section.Goals as goal
 
-pub put-written-requires : goal.put-written-requires
-put-written-requires g c =
+pub put_written-requires : goal.put_written-requires
+put_written-requires g c =
     let v = view {K = g.row.K.Denot} g.H.History.items g.H.History.room c.args.self.now in
     let end₁ : c.emit-at.result ≡ c.args.start + 5 = c.emit-at.ensures.end in
     let end₂ : c.emit-at-2.result ≡ c.emit-at.result + 10 = c.emit-at-2.ensures.end in
@@ -33,12 +33,12 @@ returns g c =
     let long = length_transaction_section v a in
     let end₁ : c.emit-at.result ≡ start + 5 = c.emit-at.ensures.end in
     let end₂ : c.emit-at-2.result ≡ c.emit-at.result + 10 = c.emit-at-2.ensures.end in
-    let end₃ = c.put-written.ensures.end in
+    let end₃ = c.put_written.ensures.end in
     let first : c.emit-at.new.buffer ≡ overwritten b start S = c.emit-at.ensures.bytes ∙ ap (λ n. overwritten b start (section_bytes (record { article = a; intervals = 1; actions = n }))) c.written-count.ensures.count in
     let to : c.max.result ≡ max (entry v a own own) (latest a v.pending) = c.max.ensures ∙ ap (max (entry v a own own)) c.written-count.ensures.last in
     let second : c.emit-at-2.new.buffer ≡ overwritten c.emit-at.new.buffer c.emit-at.result I = c.emit-at-2.ensures.bytes ∙ ap (λ t. overwritten c.emit-at.new.buffer c.emit-at.result (interval_bytes (record { site = own; from = entry v a own own; to = t }))) to in
     let two = written_then b _ _ S I start c.emit-at.result (omega arith) (omega arith) first second in
-    let three = written_then b _ _ (S ++ I) A start c.emit-at-2.result (omega arith) (omega arith) two c.put-written.ensures.bytes in
+    let three = written_then b _ _ (S ++ I) A start c.emit-at-2.result (omega arith) (omega arith) two c.put_written.ensures.bytes in
     record {
       end = omega arith;
       bytes = three ∙ ap (overwritten b start) (append_assoc S I A ∙ sym (section_is section));

@@ -14,8 +14,8 @@ use Rattle.table.proofs.tables.Table.put_sections.Goals.{then-count-gt0, else-co
 pub loop-article-init : goal.loop-article-init
 loop-article-init g c = (omega arith, sym (overwritten_none c.args.buffer.now c.args.start))
 
-pub put-section-at-requires : goal.put-section-at-requires
-put-section-at-requires g c =
+pub put_section-at-requires : goal.put_section-at-requires
+put_section-at-requires g c =
     let v = view {K = g.row.K.Denot} g.H.History.items g.H.History.room c.args.self.now in
     let a = c.loop-article.article in
     let counted = c.written-count.ensures.count in
@@ -34,8 +34,8 @@ loop-article-preserved g c =
       | then-count-gt0 w ↦
           let is : is_written v a ≡ true = lt-ltb 0 (length (on a v.pending)) (omega (arith, w.if-count-gt0.true)) in
           let more = wrote_more v a is in (
-            omega (arith, w.at-is, w.put-section-at.ensures.end, ap length more, length-append (wrote v a) new),
-            w.buffer-is ∙ written_then b c.loop-article.buffer w.put-section-at.new.buffer (wrote v a) new start c.loop-article.at c.loop-article.invariant.0 (omega (arith, wrote_le v a v.setup.articles (omega arith))) c.loop-article.invariant.1 w.put-section-at.ensures.bytes ∙ ap (overwritten b start) (sym more),
+            omega (arith, w.at-is, w.put_section-at.ensures.end, ap length more, length-append (wrote v a) new),
+            w.buffer-is ∙ written_then b c.loop-article.buffer w.put_section-at.new.buffer (wrote v a) new start c.loop-article.at c.loop-article.invariant.0 (omega (arith, wrote_le v a v.setup.articles (omega arith))) c.loop-article.invariant.1 w.put_section-at.ensures.bytes ∙ ap (overwritten b start) (sym more),
           )
       | else-count-gt0 w ↦
           let is : is_written v a ≡ false = le-ltb 0 (length (on a v.pending)) (omega (arith, w.if-count-gt0.false)) in

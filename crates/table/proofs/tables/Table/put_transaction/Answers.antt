@@ -13,8 +13,8 @@ emit-at-requires g c =
     let v = view {K = g.row.K.Denot} g.H.History.items g.H.History.room c.args.self.now in
     omega (arith, length_transaction v g.K.Kind.means)
 
-pub put-sections-requires : goal.put-sections-requires
-put-sections-requires g c =
+pub put_sections-requires : goal.put_sections-requires
+put_sections-requires g c =
     let v = view {K = g.row.K.Denot} g.H.History.items g.H.History.room c.args.self.now in
     let end : c.emit-at.result ≡ 6 = c.emit-at.ensures.end in
     omega (arith, length_transaction v g.K.Kind.means)
@@ -28,4 +28,4 @@ returns g c =
     let long = length_transaction v kind in
     let sections = c.requires.0 ∙ sym (length-map (written_articles v) (transaction_section v)) in
     let first : c.emit-at.new.buffer ≡ overwritten b 0 (header v kind) = c.emit-at.ensures.bytes ∙ (λ i. overwritten b 0 (header_bytes (record { group = v.setup.group; kind = c.number.ensures i; sender = v.setup.own; sections = sections i }))) in
-    written_then b _ _ (header v kind) (wrote v v.setup.articles) 0 c.emit-at.result (omega arith) (omega arith) first c.put-sections.ensures ∙ ap (overwritten b 0) (sym (transaction_is v kind))
+    written_then b _ _ (header v kind) (wrote v v.setup.articles) 0 c.emit-at.result (omega arith) (omega arith) first c.put_sections.ensures ∙ ap (overwritten b 0) (sym (transaction_is v kind))

@@ -20,8 +20,8 @@ returns-then-needed-buffer g c =
     let v = view {K = g.row.K.Denot} g.H.History.items g.H.History.room c.args.self.now in
     let p = c.args.peer in
     let a = c.args.article in
-    let counted : c.in-ok-actions.actions ≡ length (actions kind v p a) = ok_same _ _ c.in-ok-actions.ensures.value in
-    (offer_short kind v p a c.args.buffer.now (omega arith) (omega arith) (11 + 10 * v.setup.sites + 16 * c.in-ok-actions.actions) (omega (arith, length_offer kind v p a)) (omega arith), refl)
+    let counted : c.in_ok-actions.actions ≡ length (actions kind v p a) = ok_same _ _ c.in_ok-actions.ensures.value in
+    (offer_short kind v p a c.args.buffer.now (omega arith) (omega arith) (11 + 10 * v.setup.sites + 16 * c.in_ok-actions.actions) (omega (arith, length_offer kind v p a)) (omega arith), refl)
 
 pub returns : goal.returns
 returns g c =
@@ -31,7 +31,7 @@ returns g c =
     let a = c.args.article in
     let b = c.args.buffer.now in
     let sites = v.setup.sites in
-    let counted : c.in-ok-actions.actions ≡ length (actions kind v p a) = ok_same _ _ c.in-ok-actions.ensures.value in
+    let counted : c.in_ok-actions.actions ≡ length (actions kind v p a) = ok_same _ _ c.in_ok-actions.ensures.value in
     let long = length_offer kind v p a in
     let intervals-long : length (flat_map interval_bytes (intervals kind v p a)) ≡ 10 * sites = length_joined interval_bytes 10 (λ _. refl) (intervals kind v p a) ∙ ap (λ n. 10 * n) (length-map-range_with_len (offer_interval v p a) 0 sites) in
     let H = header kind v p a in
@@ -42,11 +42,11 @@ returns g c =
     let second : c.emit-at-2.new.buffer ≡ overwritten c.emit-at.new.buffer c.emit-at.result S = c.emit-at-2.ensures.bytes ∙ (λ i. overwritten c.emit-at.new.buffer c.emit-at.result (section_bytes (record { article = a; intervals = sym (length-map-range_with_len (offer_interval v p a) 0 sites) i; actions = counted i }))) in
     let end₁ : c.emit-at.result ≡ 6 = c.emit-at.ensures.end in
     let end₂ : c.emit-at-2.result ≡ c.emit-at.result + 5 = c.emit-at-2.ensures.end in
-    let end₃ = c.put-intervals-at.ensures.end in
+    let end₃ = c.put_intervals-at.ensures.end in
     let two = written_then b _ _ H S 0 c.emit-at.result (omega arith) (omega arith) first second in
-    let three = written_then b _ _ (H ++ S) I 0 c.emit-at-2.result (omega arith) (omega arith) two c.put-intervals-at.ensures.bytes in
-    let four = written_then b _ _ ((H ++ S) ++ I) A 0 c.put-intervals-at.result (omega (arith, length-append (H ++ S) I)) (omega arith) three c.put-offered.ensures.bytes in
-    subst (λ r. Offered kind v p a b r c.put-offered.new.buffer) (sym c.put-offered.ensures.end) (
+    let three = written_then b _ _ (H ++ S) I 0 c.emit-at-2.result (omega arith) (omega arith) two c.put_intervals-at.ensures.bytes in
+    let four = written_then b _ _ ((H ++ S) ++ I) A 0 c.put_intervals-at.result (omega (arith, length-append (H ++ S) I)) (omega arith) three c.put_offered.ensures.bytes in
+    subst (λ r. Offered kind v p a b r c.put_offered.new.buffer) (sym c.put_offered.ensures.end) (
       offer_granted kind v p a b (omega arith) (omega arith) (omega arith),
       omega arith,
       four ∙ ap (overwritten b 0) (sym (offer_is kind v p a)),
