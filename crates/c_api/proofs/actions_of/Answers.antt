@@ -4,8 +4,8 @@ use Rattle.message.proofs.Counts.{few_actions}
 use Rattle.c_api.specs.Call.{Checked}
 use Rattle.c_api.proofs.actions_of.Goals as goal
 
-pub overflow-cast-result : goal.overflow-cast-result
-overflow-cast-result g c =
+pub overflow_cast-result : goal.overflow_cast-result
+overflow_cast-result g c =
     let told = c.in-Ok.ensures.accepted in
     record { sfits = omega (arith, told.3, few_actions g.K.Kind.means c.args.setup told.0 told.1) }
 

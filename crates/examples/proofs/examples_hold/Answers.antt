@@ -9,5 +9,5 @@ table_holds : All Holds examples
 unfolding int_wrap
 table_holds = search rules
 
-pub returns-then-flags-hold : goal.returns-then-flags-hold
-returns-then-flags-hold c = (search rules, table_holds)
+pub returns-then-flags_hold : goal.returns-then-flags_hold
+returns-then-flags_hold c = (search rules, table_holds)
