@@ -2,7 +2,7 @@
 use Rattle.std.specs.Prelude.{◌≡◌, ℕ, zero, suc, List, [], map, replicate, Some, None, vec_items, Option, Result, slice_index_or, slice_set}
 use Rattle.action.specs.declared.orders.Action.{Action}
 use Rattle.history.specs.declared.racks.Rack.{Rack}
-use Rattle.history.specs.declared.Strips.Strip.{Strip}
+use Rattle.history.specs.declared.strips.Strip.{Strip}
 use Rattle.history.specs.Strips as Strips
 use Rattle.kind.specs.Meanings.{on_hand}
 use Rattle.table.specs.declared.faults.TableFault.{TableFault}

@@ -6,16 +6,16 @@ use Rattle.script.proofs.parses.parse_move.Goals as goal
 
 pub returns : goal.returns
 returns c =
-    let amount = c.in-ok-signed.field-0 in
+    let amount = c.in_ok-signed.field-0 in
     let fits : SFits w32 amount = search rules in
     record {
-      form = (λ i. Some (Move c.in-ok-site.site c.in-ok-article.article (to_z-of_z w32 amount fits i) c.in-ok-digit.field-0)) ∙ move_is c.args.body.now c.in-ok-site.site c.in-ok-article.article c.in-ok-digit.field-0 c.in-ok-thousands.thousands c.in-ok-number.field-0 amount
+      form = (λ i. Some (Move c.in_ok-site.site c.in_ok-article.article (to_z-of_z w32 amount fits i) c.in_ok-digit.field-0)) ∙ move_is c.args.body.now c.in_ok-site.site c.in_ok-article.article c.in_ok-digit.field-0 c.in_ok-thousands.thousands c.in_ok-number.field-0 amount
           (omega (arith, ltb-false, ltb-true))
-          c.in-ok-site.ensures
-          c.in-ok-article.ensures
-          c.in-ok-signed.ensures
-          c.in-ok-thousands.ensures
-          c.in-ok-number.ensures
-          c.in-ok-digit.ensures;
-      placed = c.in-ok-digit.ensures.2;
+          c.in_ok-site.ensures
+          c.in_ok-article.ensures
+          c.in_ok-signed.ensures
+          c.in_ok-thousands.ensures
+          c.in_ok-number.ensures
+          c.in_ok-digit.ensures;
+      placed = c.in_ok-digit.ensures.2;
     }

@@ -9,4 +9,4 @@ returns-in-Move c =
     let m = c.in-Move in
     let fits : SFits w32 m.amount = search rules in
     let d = desk_view c.args.self.now in
-    c.move-at.ensures ∙ ap (λ z. acted d (Move m.site m.article z m.slot)) (to_z-of_z w32 m.amount fits) ∙ ap (acted d) (sym m.is)
+    c.move_at.ensures ∙ ap (λ z. acted d (Move m.site m.article z m.slot)) (to_z-of_z w32 m.amount fits) ∙ ap (acted d) (sym m.is)

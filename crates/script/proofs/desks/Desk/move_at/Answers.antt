@@ -12,7 +12,7 @@ returns-in-0 c =
     let none = c.index-slots-slot.result in
     let s = get_or c.args.self.now.slots c.args.slot none in
     let article = c.args.article in
-    turned d.first d.second d.third c.args.self.now.slots 0 c.args.site c.args.slot none c.move-stock.new.slot (λ v bytes. moved v article c.args.amount bytes) _ (answered c.move-stock.result) (sym c.in-0.is) (omega arith) (c.move-stock.ensures ∙ ap (λ z. moved d.first article z (held s)) (to_z-of_z w32 c.args.amount c.ranges.amount))
+    turned d.first d.second d.third c.args.self.now.slots 0 c.args.site c.args.slot none c.move_stock.new.slot (λ v bytes. moved v article c.args.amount bytes) _ (answered c.move_stock.result) (sym c.in-0.is) (omega arith) (c.move_stock.ensures ∙ ap (λ z. moved d.first article z (held s)) (to_z-of_z w32 c.args.amount c.ranges.amount))
 
 pub returns-in-1 : goal.returns-in-1
 returns-in-1 c =
@@ -20,12 +20,12 @@ returns-in-1 c =
     let none = c.index-slots-slot.result in
     let s = get_or c.args.self.now.slots c.args.slot none in
     let article = c.args.article in
-    turned d.first d.second d.third c.args.self.now.slots 1 c.args.site c.args.slot none c.move-stock-in-1.new.slot (λ v bytes. moved v article c.args.amount bytes) _ (answered c.move-stock-in-1.result) (sym c.in-1.is) (omega arith) (c.move-stock-in-1.ensures ∙ ap (λ z. moved d.second article z (held s)) (to_z-of_z w32 c.args.amount c.ranges.amount))
+    turned d.first d.second d.third c.args.self.now.slots 1 c.args.site c.args.slot none c.move_stock-in-1.new.slot (λ v bytes. moved v article c.args.amount bytes) _ (answered c.move_stock-in-1.result) (sym c.in-1.is) (omega arith) (c.move_stock-in-1.ensures ∙ ap (λ z. moved d.second article z (held s)) (to_z-of_z w32 c.args.amount c.ranges.amount))
 
-pub returns-in-default : goal.returns-in-default
-returns-in-default c =
+pub returns-in_default : goal.returns-in_default
+returns-in_default c =
     let d = desk_view c.args.self.now in
     let none = c.index-slots-slot.result in
     let s = get_or c.args.self.now.slots c.args.slot none in
     let article = c.args.article in
-    turned d.first d.second d.third c.args.self.now.slots (suc (suc (c.args.site - 2))) c.args.site c.args.slot none c.move-stock-in-default.new.slot (λ v bytes. moved v article c.args.amount bytes) _ (answered c.move-stock-in-default.result) (omega arith) (omega arith) (c.move-stock-in-default.ensures ∙ ap (λ z. moved d.third article z (held s)) (to_z-of_z w32 c.args.amount c.ranges.amount))
+    turned d.first d.second d.third c.args.self.now.slots (suc (suc (c.args.site - 2))) c.args.site c.args.slot none c.move_stock-in_default.new.slot (λ v bytes. moved v article c.args.amount bytes) _ (answered c.move_stock-in_default.result) (omega arith) (omega arith) (c.move_stock-in_default.ensures ∙ ap (λ z. moved d.third article z (held s)) (to_z-of_z w32 c.args.amount c.ranges.amount))

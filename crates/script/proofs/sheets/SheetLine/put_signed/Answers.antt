@@ -10,18 +10,18 @@ pub returns : goal.returns
 returns c =
     let z = c.args.figure in
     let before = sheet_bytes c.args.self.now in
-    let digits : decimal c.unsigned-abs.result ≡ decimal (nat_abs z) = ap decimal (c.unsigned-abs.ensures.value ∙ ap nat_abs (to_z-of_z w64 z c.ranges.figure)) in
+    let digits : decimal c.unsigned_abs.result ≡ decimal (nat_abs z) = ap decimal (c.unsigned_abs.ensures.value ∙ ap nat_abs (to_z-of_z w64 z c.ranges.figure)) in
     elim c.if-figure-lt0.branch [
       | then-figure-lt0 w ↦
           let spelled = signed_below z (omega (arith, ints, w.if-figure-lt0.true)) in
           record {
-            bytes = c.put-decimal.ensures.bytes ∙ (λ i. sheet_bytes (w.self-is i) ++ digits i) ∙ ap (λ l. l ++ decimal (nat_abs z)) w.push.ensures.bytes ∙ append_assoc before (45 ∷ []) (decimal (nat_abs z)) ∙ ap (λ l. before ++ l) (sym spelled);
-            used = omega (arith, c.put-decimal.ensures.used, ap (λ s. s.used) w.self-is, w.push.ensures.used, ap length digits, ap length spelled);
+            bytes = c.put_decimal.ensures.bytes ∙ (λ i. sheet_bytes (w.self-is i) ++ digits i) ∙ ap (λ l. l ++ decimal (nat_abs z)) w.push.ensures.bytes ∙ append_assoc before (45 ∷ []) (decimal (nat_abs z)) ∙ ap (λ l. before ++ l) (sym spelled);
+            used = omega (arith, c.put_decimal.ensures.used, ap (λ s. s.used) w.self-is, w.push.ensures.used, ap length digits, ap length spelled);
           }
       | else-figure-lt0 w ↦
           let spelled = signed_above z (omega (arith, ints, w.if-figure-lt0.false)) in
           record {
-            bytes = c.put-decimal.ensures.bytes ∙ (λ i. sheet_bytes (w.self-is i) ++ digits i) ∙ ap (λ l. before ++ l) (sym spelled);
-            used = omega (arith, c.put-decimal.ensures.used, ap (λ s. s.used) w.self-is, ap length digits, ap length spelled);
+            bytes = c.put_decimal.ensures.bytes ∙ (λ i. sheet_bytes (w.self-is i) ++ digits i) ∙ ap (λ l. before ++ l) (sym spelled);
+            used = omega (arith, c.put_decimal.ensures.used, ap (λ s. s.used) w.self-is, ap length digits, ap length spelled);
           }
     ]
