@@ -25,7 +25,7 @@ mod walks;
 
 use crate::plays::{Stranger, play_run};
 use crate::reports::Counts;
-use crate::stops::Stop;
+use crate::stops::{Stop, Trouble, carry_out};
 use kind::{Flags, Kind, OnHand, Price};
 use std::alloc::Global;
 use std::io;
@@ -38,12 +38,6 @@ struct Wish {
     seed: u64,
     runs: u32,
     lines: u32,
-}
-
-// Why the program ends with an error: it stopped, or some hand still holds a ticket.
-pub enum Trouble {
-    Stopped(Stop),
-    Kept(Result<(), Stop>, [Option<Ticket>; 9]),
 }
 
 // A run of one kind; `J` is another one.
@@ -157,8 +151,11 @@ fn main(rt: HostRuntime) -> Result<(), Trouble> {
     match (a, b, c, d, e, f, g, h, i) {
         (None, None, None, None, None, None, None, None, None) => match outcome {
             Ok(()) => Ok(()),
-            Err(stop) => Err(Trouble::Stopped(stop)),
+            Err(stop) => Err(stop.trouble()),
         },
-        (a, b, c, d, e, f, g, h, i) => Err(Trouble::Kept(outcome, [a, b, c, d, e, f, g, h, i])),
+        (a, b, c, d, e, f, g, h, i) => {
+            carry_out((outcome, [a, b, c, d, e, f, g, h, i]));
+            Err(Trouble::Kept)
+        }
     }
 }
