@@ -1,10 +1,10 @@
 -- An action's bytes stand for that action. Assumes nothing.
-use Rattle.std.proofs.Common.{◌≡◌, ℕ, ◌+◌, ◌*◌, ◌/◌, ◌%◌, ◌^◌, ◌<◌, length, get_or, ℤ, sym, refl, ap, ◌∙◌, mod-eq_of_lt, div-add-mod', arith, w32, SFits, to_z, of_z}
+use Rattle.std.proofs.Common.{◌≡◌, ℕ, ◌+◌, ◌*◌, ◌/◌, ◌%◌, ◌^◌, ◌<◌, length, ℤ, refl, ap, ◌∙◌, mod-eq_of_lt, div-add-mod', arith, w32, SFits, to_z, of_z}
 use native.Mathlib.Nat.{div-div-eq-div-mul}
 use mir.Facts.{Fits-of_z}
 use Rattle.std.proofs.lemmas.Int.{to_z-of_z}
 use Rattle.action.specs.declared.orders.Action.{Action}
-use Rattle.action.specs.Bytes.{action_bytes, action_of, bytes_of, number4}
+use Rattle.action.specs.Bytes.{action_bytes, action_of}
 
 -- n by its digits in base 256, q the quotients on the way and r the remainders
 by_quotients : (n q₁ q₂ q₃ r₀ r₁ r₂ : ℕ) → q₁ * 256 + r₀ ≡ n → q₂ * 256 + r₁ ≡ q₁ → q₃ * 256 + r₂ ≡ q₂ → q₃ * 16777216 + r₂ * 65536 + r₁ * 256 + r₀ ≡ n

@@ -1,6 +1,5 @@
 -- Which set-ups there are, and how refusals are written down. Assumes nothing.
 use Rattle.std.specs.Prelude.{◌≡◌, ℕ, ◌<◌, ◌≤◌, Bool, cond, Some, Ok, Err, Option, Result}
-use Rattle.action.specs.declared.refusals.Layer.{Layer}
 use Rattle.action.specs.declared.refusals.Layer.TheVariants.{Reader, History, Table}
 use Rattle.action.specs.declared.refusals.Refusal.{Refusal}
 use Rattle.action.specs.declared.setups.Setup.{Setup}

@@ -1,6 +1,6 @@
 -- Flags: the order of two known pairs makes no difference. Assumes nothing.
-use Rattle.std.specs.Prelude.{◌≡◌, ℕ, zero, suc, ◌+◌, ◌*◌, ◌/◌, ◌%◌, ◌^◌, ◌<◌, max, true, ℤ, FitsSigned, bit_or, refl}
-use Rattle.std.proofs.Common.{sym, ap, ◌∙◌, div-add-mod', arith, to_z, of_z}
+use Rattle.std.specs.Prelude.{◌≡◌, ℕ, ◌+◌, ◌*◌, ◌/◌, ◌%◌, ◌^◌, ◌<◌, max, true, ℤ, FitsSigned, bit_or, refl}
+use Rattle.std.proofs.Common.{sym, ap, ◌∙◌, arith, to_z, of_z}
 use Rattle.std.proofs.Math.Arith.{bin_ind}
 use Rattle.std.specs.Int.Bits.{or_step}
 use Rattle.std.proofs.lemmas.Nat.{or_comm, or_lt, or_shr}

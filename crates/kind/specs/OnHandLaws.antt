@@ -1,6 +1,6 @@
 -- On hand: a step stays within 64 bits, and the order of two known pairs makes no difference. Assumes nothing.
 use Rattle.std.specs.Prelude.{◌≡◌, ℕ, true, ℤ, ◌+ℤ◌, FitsSigned}
-use Rattle.std.proofs.Common.{ap, ◌∙◌}
+use Rattle.std.proofs.Common.{ap}
 use Rattle.std.proofs.Math.IntN.{+ℤ_assoc, +ℤ_comm}
 use Rattle.std.specs.Int.{int_wrap, w64}
 use Rattle.std.proofs.lemmas.Int.{int_wrap-add_left, SFits-int_wrap}

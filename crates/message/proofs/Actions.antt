@@ -1,7 +1,7 @@
 -- A section's actions: the test of each after those before it, and what all of them keep. Assumes nothing.
-use Rattle.std.proofs.Common.{◌≡◌, ℕ, ◌-◌, ◌<◌, ◌≤◌, Bool, true, false, cond, ◌&&◌, eqb, ltb, leb, List, [], ◌∷◌, ◌++◌, map, length, get_or, Some, None, fold, sym, refl, ap, ◌∙◌, subst, arith}
+use Rattle.std.proofs.Common.{◌≡◌, ℕ, ◌≤◌, true, cond, ◌&&◌, eqb, ltb, leb, List, [], ◌∷◌, get_or, sym, refl, ap, ◌∙◌, arith}
 use Rattle.std.specs.List.{AllByRecursion as All}
-use Rattle.std.proofs.lemmas.Bool.{and_from, and_parts, cond-false, cond-true, eq-eqb, eqb-true, le-leb, le-ltb, leb-true, lt-ltb}
+use Rattle.std.proofs.lemmas.Bool.{and_from, and_parts, cond-true, eq-eqb, eqb-true, le-leb, leb-true, lt-ltb}
 use Rattle.action.specs.declared.orders.Action.{Action}
 use Rattle.action.specs.declared.setups.Setup.{Setup}
 use Rattle.action.specs.Order.{Ascending, Leads, precedes}
@@ -9,14 +9,12 @@ use Rattle.action.proofs.Sequence.{leads_through}
 use Rattle.kind.specs.Meaning.{Meaning}
 use Rattle.kind.specs.Working.{knows_action}
 use Rattle.message.specs.declared.reading.Due.{Due}
-use Rattle.message.specs.declared.reading.Due.TheVariants as Due
 use Rattle.message.specs.declared.reading.Progress.{Progress}
 use Rattle.message.specs.declared.reading.Span.{Span}
 use Rattle.message.specs.declared.reading.Verdict.TheVariants.{Passed, Broken}
-use Rattle.message.specs.declared.records.Record.{Record}
 use Rattle.message.specs.declared.records.Record.TheVariants as RecordKinds
-use Rattle.message.specs.Progress.{admitted, after_action, carries, due_after, lawful_action, no_span}
-use Rattle.message.specs.Reading.{is_due, onward}
+use Rattle.message.specs.Progress.{after_action, carries, due_after, lawful_action, no_span}
+use Rattle.message.specs.Reading.{is_due}
 use Rattle.message.proofs.Onward.{action_on}
 use Rattle.message.proofs.Steps.{onward_passes}
 use Rattle.message.proofs.Stretches.{Run, Stretch}

@@ -1,5 +1,5 @@
 -- How many actions a message can carry. Assumes nothing.
-use Rattle.std.proofs.Common.{ℕ, ◌*◌, ◌≤◌, length, mul-le-mul_right, arith}
+use Rattle.std.proofs.Common.{◌≤◌, length, arith}
 use Rattle.std.proofs.ByRecursion.{All-weaker}
 use Rattle.std.proofs.ByRecursion.{sum_by_le}
 use Rattle.action.specs.declared.setups.Setup.{Setup}

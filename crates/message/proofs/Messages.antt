@@ -1,5 +1,5 @@
 -- Whole messages: their records are read to the end just where they are lawful. Assumes nothing.
-use Rattle.std.proofs.Common.{◌≡◌, ℕ, zero, suc, ◌+◌, ◌-◌, ◌<◌, ◌≤◌, Bool, true, false, cond, ◌&&◌, eqb, ltb, leb, List, [], ◌∷◌, ◌++◌, map, length, Some, None, fold, sum_by, count_by, sym, refl, ap, ◌∙◌, subst, arith}
+use Rattle.std.proofs.Common.{◌≡◌, ℕ, zero, suc, ◌<◌, ◌≤◌, true, cond, ◌&&◌, eqb, ltb, leb, List, [], ◌∷◌, ◌++◌, map, length, Some, fold, sum_by, count_by, sym, refl, ap, ◌∙◌, arith}
 use Rattle.std.specs.List.{flat_map, AllByRecursion as All}
 use Rattle.std.proofs.ByRecursion.{All-map, All-weaker}
 use Rattle.std.proofs.lemmas.List.Sums.{sum_by-append, sum_by-cons}
@@ -8,7 +8,6 @@ use Rattle.action.specs.declared.orders.Action.{Action}
 use Rattle.action.specs.declared.setups.Setup.{Setup}
 use Rattle.kind.specs.Meaning.{Meaning}
 use Rattle.message.specs.declared.reading.Due.{Due}
-use Rattle.message.specs.declared.reading.Due.TheVariants as Due
 use Rattle.message.specs.declared.reading.Progress.{Progress}
 use Rattle.message.specs.declared.reading.Verdict.TheVariants.{Passed, Foreign, Broken}
 use Rattle.message.specs.declared.records.Header.{Header}
@@ -16,7 +15,7 @@ use Rattle.message.specs.declared.records.Interval.{Interval}
 use Rattle.message.specs.declared.records.Record.{Record}
 use Rattle.message.specs.declared.records.Record.TheVariants as RecordKinds
 use Rattle.message.specs.Fields.{Fitting}
-use Rattle.message.specs.Format.{Message, Section, header_of, head_of, records, section_records}
+use Rattle.message.specs.Format.{Message, Section, header_of, records, section_records}
 use Rattle.message.specs.Lawful.{LawfulMessage, LawfulSection, Rising, action_count}
 use Rattle.message.specs.Progress.{after_header, due_after, lawful_header, named, start}
 use Rattle.message.specs.Reading.{is_action, is_due, onward, reading}

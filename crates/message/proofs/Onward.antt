@@ -1,11 +1,10 @@
 -- The first of several records, and what its kind tells. Assumes nothing.
-use Rattle.std.proofs.Common.{◌≡◌, ℕ, Bool, true, false, cond, List, [], ◌∷◌, ◌++◌, Some, None, fold, Option, sym, refl, ap, ◌∙◌, arith}
-use Rattle.std.proofs.lemmas.Bool.{cond-true, false≢true}
+use Rattle.std.proofs.Common.{◌≡◌, ℕ, Bool, true, false, cond, List, [], ◌∷◌, Some, None, fold, sym, refl, ◌∙◌, arith}
+use Rattle.std.proofs.lemmas.Bool.{false≢true}
 use Rattle.action.specs.declared.orders.Action.{Action}
 use Rattle.action.specs.declared.setups.Setup.{Setup}
 use Rattle.kind.specs.Meaning.{Meaning}
 use Rattle.message.specs.declared.reading.Due.{Due}
-use Rattle.message.specs.declared.reading.Due.TheVariants as Due
 use Rattle.message.specs.declared.reading.Progress.{Progress}
 use Rattle.message.specs.declared.reading.Verdict.{Verdict}
 use Rattle.message.specs.declared.reading.Verdict.TheVariants.{Passed, Foreign, Broken}

@@ -1,27 +1,25 @@
 -- What a refused step tells of the rest of the bytes. Assumes nothing.
-use Rattle.std.proofs.Common.{◌≡◌, ℕ, zero, suc, ◌<◌, ◌≤◌, Bool, true, false, cond, ◌&&◌, eqb, List, [], ◌∷◌, ◌++◌, length, get_or, drop, Some, None, sym, refl, ap, ◌∙◌, subst, arith}
+use Rattle.std.proofs.Common.{◌≡◌, ℕ, ◌<◌, ◌≤◌, Bool, true, false, cond, eqb, List, [], length, get_or, drop, None, sym, refl, ap, ◌∙◌, subst, arith}
 use Rattle.std.proofs.lemmas.List.{nil_from_length}
 use Rattle.std.proofs.lemmas.Bool.{and_from, and_parts, both_ways, eq-eqb, eqb-false, eqb-true, false≢true}
 use Rattle.action.specs.declared.refusals.Refusal.{Refusal}
 use Rattle.action.specs.declared.setups.Setup.{Setup}
-use Rattle.action.specs.Lawful.{by_reader}
 use Rattle.kind.specs.Meaning.{Meaning}
 use Rattle.message.specs.declared.decodes.Decoded.{Decoded}
 use Rattle.message.specs.declared.decodes.Decoded.TheVariants.{Whole, Cut, Finished, Trailing}
 use Rattle.message.specs.declared.reading.Due.{Due}
-use Rattle.message.specs.declared.reading.Due.TheVariants as Due
 use Rattle.message.specs.declared.reading.Progress.{Progress}
 use Rattle.message.specs.declared.reading.Verdict.{Verdict}
 use Rattle.message.specs.declared.reading.Verdict.TheVariants.{Passed, Foreign, Broken}
 use Rattle.message.specs.declared.records.Header.{Header}
 use Rattle.message.specs.declared.records.Record.{Record}
 use Rattle.message.specs.declared.records.Record.TheVariants as RecordKinds
-use Rattle.message.specs.Checks.{BytesFollow, Named, NoRecord, OtherTable, Reason, RuleBroken, StartsWith, bytes_follow, no_record, other_table, rule_broken}
+use Rattle.message.specs.Checks.{Named, Reason, StartsWith, bytes_follow, no_record, other_table, rule_broken}
 use Rattle.message.specs.Decoding.{decoded}
 use Rattle.message.specs.Fields.{Fitting}
 use Rattle.message.specs.Format.{record_bytes}
 use Rattle.message.specs.Progress.{admitted, after_header, lawful_header, named}
-use Rattle.message.specs.Reading.{Step, ended, found, granted, is_due, judged, onward, refused, step, stepped}
+use Rattle.message.specs.Reading.{ended, granted, is_due, judged, refused, step, stepped}
 use Rattle.message.proofs.Decodings.{decoded_format}
 use Rattle.message.proofs.Recoding.{whole_back}
 

@@ -1,5 +1,5 @@
 -- One record more. Assumes nothing.
-use Rattle.std.proofs.Common.{◌≡◌, ℕ, ◌+◌, ◌<◌, ◌≤◌, Bool, true, false, cond, List, [], ◌∷◌, ◌++◌, length, get_or, drop, Some, None, Ok, fold, count_by, Option, sym, refl, ap, ◌∙◌, subst, arith}
+use Rattle.std.proofs.Common.{◌≡◌, ℕ, ◌+◌, ◌<◌, ◌≤◌, Bool, true, cond, List, [], ◌∷◌, ◌++◌, length, get_or, drop, Some, None, Ok, count_by, sym, refl, ap, ◌∙◌, subst, arith}
 use Rattle.std.specs.List.{flat_map}
 use Rattle.std.proofs.ByRecursion.{All-push}
 use Rattle.std.proofs.lemmas.List.{append_assoc, drop-drop, get_or-drop, length-append}
@@ -19,7 +19,7 @@ use Rattle.message.specs.Decoding.{decoded}
 use Rattle.message.specs.Fields.{Fitting}
 use Rattle.message.specs.Format.{record_bytes}
 use Rattle.message.specs.Progress.{admitted, start}
-use Rattle.message.specs.Reading.{Begun, Next, Step, ended, found, granted, is_action, is_due, judged, onward, reading, refused, step, stepped}
+use Rattle.message.specs.Reading.{Begun, Next, ended, found, granted, is_action, is_due, judged, onward, refused, step, stepped}
 use Rattle.message.proofs.Formats.{joined_push}
 use Rattle.message.proofs.Recoding.{whole_back}
 

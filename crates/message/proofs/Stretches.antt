@@ -1,9 +1,8 @@
 -- Records of one kind, one after another: a section's intervals, and its actions. Assumes nothing.
-use Rattle.std.proofs.Common.{◌≡◌, ℕ, zero, suc, ◌-◌, ◌≤◌, Bool, true, false, cond, List, [], ◌∷◌, ◌++◌, map, length, Some, None, fold, Option, sym, refl, ap, ◌∙◌, subst, arith}
+use Rattle.std.proofs.Common.{◌≡◌, ℕ, zero, suc, ◌-◌, ◌≤◌, Bool, true, List, [], ◌∷◌, ◌++◌, map, length, Some, fold, sym, refl, ap, ◌∙◌, arith}
 use Rattle.action.specs.declared.setups.Setup.{Setup}
 use Rattle.kind.specs.Meaning.{Meaning}
 use Rattle.message.specs.declared.reading.Due.{Due}
-use Rattle.message.specs.declared.reading.Due.TheVariants as Due
 use Rattle.message.specs.declared.reading.Progress.{Progress}
 use Rattle.message.specs.declared.reading.Verdict.TheVariants.{Passed}
 use Rattle.message.specs.declared.records.Record.{Record}

@@ -1,5 +1,5 @@
 -- What reading all the bytes comes to, in words of the format. Assumes nothing.
-use Rattle.std.proofs.Common.{◌≡◌, ℕ, ◌+◌, ◌<◌, ◌≤◌, ◌⊎◌, List, [], ◌∷◌, ◌++◌, length, get_or, drop, Some, Ok, Err, count_by, Result, sym, refl, ap, ◌∙◌, subst, inl, inr, arith}
+use Rattle.std.proofs.Common.{◌≡◌, ℕ, ◌+◌, ◌<◌, ◌≤◌, ◌⊎◌, List, [], ◌++◌, length, get_or, drop, Ok, Err, count_by, Result, sym, ap, ◌∙◌, subst, inl, inr, arith}
 use Rattle.std.specs.List.{flat_map}
 use Rattle.std.proofs.lemmas.List.{append_cancel_left, append-nil, get_or-drop}
 use Rattle.std.proofs.lemmas.Bool.{false≢true}
@@ -9,13 +9,12 @@ use Rattle.kind.specs.Meaning.{Meaning}
 use Rattle.message.specs.declared.faults.ReaderFault.{ReaderFault}
 use Rattle.message.specs.declared.reading.Due.TheVariants as Due
 use Rattle.message.specs.declared.reading.Progress.{Progress}
-use Rattle.message.specs.declared.records.Record.{Record}
 use Rattle.message.specs.Checks.{Accepted, Accepts, Beginning, Longest, Reason, Refused, Unique, bytes_follow, no_record, other_table, rule_broken}
 use Rattle.message.specs.Faults.{shown}
 use Rattle.message.specs.Format.{Message, format, record_bytes, records}
 use Rattle.message.specs.Lawful.{LawfulMessage, action_count}
 use Rattle.message.specs.Progress.{start}
-use Rattle.message.specs.Reading.{Begun, Scanned, is_action, is_due, reading}
+use Rattle.message.specs.Reading.{Scanned, is_action, is_due, reading}
 use Rattle.message.proofs.Beginnings.{Begins, after_beginning, at_the_end, beginnings, begins_length, begins_same, longest, place_is}
 use Rattle.message.proofs.Messages.{counted, lawful_reads, reads_lawful}
 use Rattle.message.proofs.Onward.{some_same}

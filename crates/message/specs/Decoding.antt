@@ -4,7 +4,6 @@ use Rattle.action.specs.Bytes.{action_of, number4}
 use Rattle.message.specs.declared.decodes.Decoded.{Decoded}
 use Rattle.message.specs.declared.decodes.Decoded.TheVariants.{Whole, Cut, Finished, Trailing}
 use Rattle.message.specs.declared.reading.Due.{Due}
-use Rattle.message.specs.declared.reading.Due.TheVariants as Due
 use Rattle.message.specs.declared.records.Header.{Header}
 use Rattle.message.specs.declared.records.Interval.{Interval}
 use Rattle.message.specs.declared.records.SectionHead.{SectionHead}

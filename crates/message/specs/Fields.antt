@@ -1,5 +1,5 @@
 -- Which records their bytes can hold. Assumes nothing.
-use Rattle.std.specs.Prelude.{ℕ, ◌^◌, ◌<◌, FitsSigned}
+use Rattle.std.specs.Prelude.{◌^◌, ◌<◌, FitsSigned}
 use Rattle.std.specs.Int.{w32}
 use Rattle.action.specs.declared.orders.Action.{Action}
 use Rattle.message.specs.declared.records.Header.{Header}

@@ -1,5 +1,5 @@
 -- How bytes are read, record by record. Assumes nothing.
-use Rattle.std.specs.Prelude.{◌≡◌, ℕ, suc, ◌+◌, Bool, true, false, cond, List, [], ◌∷◌, ◌++◌, length, drop, Some, None, Ok, Err, fold, count_by, Option, Result}
+use Rattle.std.specs.Prelude.{◌≡◌, ℕ, ◌+◌, Bool, true, false, cond, List, ◌++◌, length, drop, Some, None, Ok, Err, fold, count_by, Option, Result}
 use Rattle.std.specs.List.{flat_map, AllByRecursion as All}
 use Rattle.action.specs.declared.refusals.Refusal.{Refusal}
 use Rattle.action.specs.declared.setups.Setup.{Setup}
@@ -9,7 +9,6 @@ use Rattle.message.specs.declared.decodes.Decoded.{Decoded}
 use Rattle.message.specs.declared.decodes.Decoded.TheVariants.{Whole, Cut, Finished, Trailing}
 use Rattle.message.specs.declared.faults.ReaderFault.{ReaderFault}
 use Rattle.message.specs.declared.reading.Due.{Due}
-use Rattle.message.specs.declared.reading.Due.TheVariants as Due
 use Rattle.message.specs.declared.reading.Found.{Found}
 use Rattle.message.specs.declared.reading.Look.{Look}
 use Rattle.message.specs.declared.reading.Look.TheVariants.{Ended, Read, Refused}

@@ -1,12 +1,12 @@
 -- Changes to rows, action by action and article by article. Assumes nothing.
-use Rattle.std.proofs.Common.{◌≡◌, ℕ, zero, suc, ◌+◌, ◌<◌, ◌≤◌, max, Bool, true, false, cond, eqb, List, [], ◌∷◌, ◌++◌, map, length, get_or, set, ℤ, fold, filter, sym, refl, ap, ◌∙◌, subst, ⊎_elim, add-zero, add-suc, zero-add, arith}
+use Rattle.std.proofs.Common.{◌≡◌, ℕ, zero, suc, ◌+◌, ◌<◌, ◌≤◌, max, cond, eqb, List, [], ◌∷◌, length, get_or, set, ℤ, fold, filter, sym, refl, ap, ◌∙◌, subst, ⊎_elim, add-zero, zero-add, arith}
 use Rattle.std.proofs.lemmas.List.{ext_get_or, get_or_past, get_or-set_other, get_or-set_same, length-set, set-get_or, set_past, set-set}
 use Rattle.std.proofs.lemmas.Bool.{cases_eq, cases_lt, eq-eqb, ne_eqb}
 use Rattle.action.specs.declared.orders.Action.{Action}
 use Rattle.kind.specs.Working.{on, working}
 use Rattle.message.specs.declared.records.Interval.{Interval}
 use Rattle.row.specs.declared.rows.Row.{Row}
-use Rattle.row.specs.Rows.{on_article_row, on_row, raised_row, restarted, stepped_row}
+use Rattle.row.specs.Rows.{on_article_row, on_row, raised_row, stepped_row}
 use Rattle.row.specs.Passes.{raised_by}
 use Rattle.row.specs.Entries.{at, each_row, no_row, raised}
 

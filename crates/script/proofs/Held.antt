@@ -1,5 +1,5 @@
 -- What goes into a slot of 1,200 bytes, whatever they are.
-use Rattle.std.proofs.Common.{◌≡◌, ℕ, ◌+◌, cond, ltb, leb, List, [], length, take, drop, ℤ, Some, None, Ok, sym, refl, ap, ◌∙◌}
+use Rattle.std.proofs.Common.{◌≡◌, ℕ, ◌+◌, cond, ltb, leb, List, [], length, take, drop, ℤ, Some, None, Ok, sym, ap, ◌∙◌}
 use Rattle.std.proofs.lemmas.List.{length-replicate, take_at}
 use Rattle.action.specs.declared.refusals.Refusal.{Refusal}
 use Rattle.action.specs.Lawful.{by_table, unless}
@@ -7,7 +7,7 @@ use Rattle.kind.specs.Meanings.{on_hand}
 use Rattle.message.specs.Buffer.{overwritten}
 use Rattle.table.specs.Offers.{offer_bytes, offer_refusal}
 use Rattle.table.specs.declared.tickets.Ticket.{Ticket}
-use Rattle.table.specs.Transactions.{Committed, Opened, Wrote, abandoned, commit_refusal, committed, fitting, new_action, next_time, opened, ticket, transaction_bytes, write_refusal, written}
+use Rattle.table.specs.Transactions.{Committed, Opened, Wrote, abandoned, commit_refusal, committed, fitting, new_action, next_time, opened, transaction_bytes, write_refusal, written}
 use Rattle.table.specs.View.{View}
 use Rattle.script.specs.declared.answers.Answer.TheVariants.{Number}
 use Rattle.script.specs.Acts.{Outcome, decided, moved_opened, moved_written, moved, offered, refused_at}

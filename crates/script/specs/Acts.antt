@@ -1,5 +1,5 @@
 -- What each command does at one site, in terms of the table's calls. Assumes nothing.
-use Rattle.std.specs.Prelude.{◌≡◌, ℕ, Bool, cond, List, length, ℤ, Some, None, Ok, Err, Option, Result}
+use Rattle.std.specs.Prelude.{◌≡◌, ℕ, cond, List, length, ℤ, Some, None, Ok, Err, Option, Result}
 use Rattle.action.specs.declared.refusals.Refusal.{Refusal}
 use Rattle.kind.specs.Meanings.{on_hand}
 use Rattle.table.specs.declared.faults.TableFault.{TableFault}

@@ -1,7 +1,7 @@
 -- What a sound table writes is a lawful message for its group. Assumes nothing.
-use Rattle.std.proofs.Common.{◌≡◌, ℕ, ◌+◌, ◌<◌, ◌≤◌, max, Bool, true, false, ◌&&◌, eqb, ltb, leb, List, [], ◌∷◌, map, length, get_or, filter, sym, refl, ap, ◌∙◌, subst, arith}
-use Rattle.std.specs.List.{range_with_len, ContainsAt as Has, AllByRecursion as All}
-use Rattle.std.proofs.lemmas.List.FromFn.{length-range_with_len, length-map-range_with_len}
+use Rattle.std.proofs.Common.{◌≡◌, ℕ, ◌+◌, ◌<◌, ◌≤◌, max, true, eqb, ltb, List, [], ◌∷◌, map, length, get_or, filter, sym, refl, ap, subst, arith}
+use Rattle.std.specs.List.{range_with_len, AllByRecursion as All}
+use Rattle.std.proofs.lemmas.List.FromFn.{length-map-range_with_len}
 use Rattle.std.proofs.ByRecursion.{All-from_get_or, All-get_or, all_kept_by, All-map, All-weaker, kept_by_passes}
 use Rattle.std.proofs.lemmas.List.Sums.{count_by-le-length, length-filter}
 use Rattle.std.proofs.lemmas.Bool.{and_parts, eqb-true, leb-true, lt-ltb, ltb-true}
@@ -11,7 +11,7 @@ use Rattle.action.proofs.Sequence.{ascending_kept}
 use Rattle.kind.specs.Meaning.{Meaning}
 use Rattle.kind.specs.Working.{on}
 use Rattle.message.specs.declared.records.Interval.{Interval}
-use Rattle.message.specs.Lawful.{Carries, LawfulAction, LawfulInterval, LawfulMessage, LawfulSection, Rising}
+use Rattle.message.specs.Lawful.{LawfulAction, LawfulInterval, LawfulMessage, LawfulSection, Rising}
 use Rattle.message.proofs.Sections.{all_both}
 use Rattle.table.specs.Offers.{is_offered, offer_interval, offer_message, offer_section}
 use Rattle.table.specs.Sound.{Fitting, Sound}

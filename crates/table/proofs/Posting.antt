@@ -1,5 +1,5 @@
 -- What a commit does to the rows. Assumes nothing.
-use Rattle.std.proofs.Common.{◌≡◌, ℕ, ◌<◌, Bool, true, false, cond, List, ◌++◌, map, length, get_or, fold, sym, refl, ap, ◌∙◌, arith}
+use Rattle.std.proofs.Common.{◌≡◌, ℕ, ◌<◌, Bool, true, false, cond, List, ◌++◌, map, length, get_or, fold, ap, ◌∙◌, arith}
 use Rattle.std.proofs.lemmas.List.{get_or-map, length-map}
 use Rattle.action.specs.declared.orders.Action.{Action}
 use Rattle.kind.specs.Meaning.{Meaning}
@@ -8,7 +8,7 @@ use Rattle.row.specs.declared.rows.Row.{Row}
 use Rattle.row.specs.Rows.{on_row, raised_row, restarted, stepped_row}
 use Rattle.table.specs.Transactions.{committed_row, latest}
 use Rattle.table.specs.View.{View}
-use Rattle.row.specs.Entries.{each_row, no_row, raised}
+use Rattle.row.specs.Entries.{each_row, no_row}
 use Rattle.row.proofs.RowLaws.{by_rows, length_on_rows, raised_from, row_on_rows, stepped_by}
 
 module _ (kind : Meaning) (v : View) where

@@ -1,5 +1,5 @@
 -- A transaction message's bytes, article by article. Assumes nothing.
-use Rattle.std.proofs.Common.{◌≡◌, ℕ, zero, suc, ◌+◌, ◌-◌, ◌*◌, ◌<◌, ◌≤◌, Bool, true, false, cond, eqb, ltb, List, [], ◌∷◌, ◌++◌, map, length, count_by, filter, sym, refl, ap, ◌∙◌, subst, ⊎_elim, add-zero, add-suc, add-one, arith}
+use Rattle.std.proofs.Common.{◌≡◌, ℕ, zero, suc, ◌+◌, ◌-◌, ◌*◌, ◌≤◌, Bool, true, false, cond, eqb, ltb, List, [], ◌∷◌, ◌++◌, map, length, count_by, filter, sym, refl, ap, ◌∙◌, ⊎_elim, add-zero, add-suc, add-one, arith}
 use Rattle.std.specs.List.{range_with_len, flat_map}
 use Rattle.std.proofs.lemmas.List.FromFn.{filter_of_map_range_with_len_more}
 use Rattle.std.proofs.lemmas.List.{append-nil, length-append, map-id, map_push}
@@ -11,7 +11,7 @@ use Rattle.kind.specs.Meaning.{Meaning}
 use Rattle.kind.specs.Working.{on}
 use Rattle.message.specs.Format.{format, header_bytes, header_of, section_format}
 use Rattle.message.proofs.Formats.{format_is, joined_push, length_section}
-use Rattle.table.specs.Transactions.{is_written, transaction_message, transaction_section, written_articles}
+use Rattle.table.specs.Transactions.{is_written, transaction_message, transaction_section}
 use Rattle.table.specs.View.{View}
 
 -- what never falls from one number to the next

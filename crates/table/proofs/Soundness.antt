@@ -1,8 +1,8 @@
 -- Every call keeps a sound table sound. Assumes nothing.
-use Rattle.std.proofs.Common.{◌≡◌, ℕ, ◌+◌, ◌<◌, ◌≤◌, max, Bool, true, false, cond, List, [], ◌∷◌, ◌++◌, length, get_or, replicate, ℤ, Some, None, Ok, Err, Option, Result, sym, refl, ap, ◌∙◌, subst, ⊎_elim, arith, w32, w64, SFits}
+use Rattle.std.proofs.Common.{◌≡◌, ℕ, ◌+◌, ◌<◌, ◌≤◌, max, Bool, true, false, cond, List, [], ◌++◌, length, get_or, ℤ, None, Ok, Err, Option, Result, sym, refl, ap, ◌∙◌, subst, ⊎_elim, arith, w32, w64, SFits}
 use Rattle.std.specs.List.{AllByRecursion as All}
 use Rattle.std.proofs.ByRecursion.{All-append, All-from_get_or, All-get_or, All-weaker}
-use Rattle.std.proofs.lemmas.List.{append-nil, get_or_past, get_or-replicate, length-append, length_push, length-replicate}
+use Rattle.std.proofs.lemmas.List.{get_or_past, get_or-replicate, length-append, length_push}
 use Rattle.std.proofs.lemmas.Bool.{and_parts, cases_eq, cases_lt, false≢true, leb-true, ltb-true}
 use Rattle.action.specs.declared.orders.Action.{Action}
 use Rattle.action.specs.declared.refusals.Refusal.{Refusal}
@@ -18,7 +18,7 @@ use Rattle.table.specs.declared.tickets.Ticket.{Ticket}
 use Rattle.table.specs.Sound.{Fitting, Sound, Square, Waiting}
 use Rattle.table.specs.Transactions.{Abandoned, Committed, Opened, Wrote, committed, committed_row, holds, latest, new_action, next_time, opened, with_transaction, written}
 use Rattle.table.specs.View.{View, entry, fresh, row}
-use Rattle.row.specs.Entries.{at, each_row, no_row, raised, start_row, unknown}
+use Rattle.row.specs.Entries.{at, no_row, raised, start_row}
 use Rattle.table.proofs.Entries.{at_raised, at_raised_column, at_raised_ge, at_raised_row, at_unknown, eights_raised}
 use Rattle.message.specs.Progress.{no_action}
 use Rattle.row.proofs.RowLaws.{by_row, length_each_row, row_each, row_past}

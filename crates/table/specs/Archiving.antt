@@ -1,6 +1,5 @@
 -- What archive does to a table. Assumes nothing.
-use Rattle.std.specs.Prelude.{◌≡◌, ℕ, min, Bool, cond, not, ◌&&◌, List, length, Some, None, Ok, Err, fold, filter, Option, Result, ◌==◌, nat_lt}
-use Rattle.std.specs.List.{range_with_len}
+use Rattle.std.specs.Prelude.{◌≡◌, ℕ, Bool, cond, not, List, length, Some, None, Ok, Err, filter, Option, Result, ◌==◌, nat_lt}
 use Rattle.action.specs.declared.orders.Action.{Action}
 use Rattle.action.specs.declared.refusals.Refusal.{Refusal}
 use Rattle.action.specs.Lawful.{by_table, unless}
@@ -11,7 +10,7 @@ use Rattle.table.specs.declared.faults.TableFault.{TableFault}
 use Rattle.row.specs.declared.rows.Row.{Row}
 use Rattle.table.specs.Faults.{shown}
 use Rattle.table.specs.View.{View}
-use Rattle.row.specs.Entries.{each_row, entry_in}
+use Rattle.row.specs.Entries.{each_row}
 
 abbrev pub archive_refusal : View → ℕ → Option Refusal
 archive_refusal v a = unless (not v.is_open) (by_table 2 0) (unless (nat_lt a v.setup.articles) (by_table 4 0) None)

@@ -1,13 +1,11 @@
 -- What take does to a table. Assumes nothing.
-use Rattle.std.specs.Prelude.{◌≡◌, ℕ, ◌+◌, max, Bool, true, false, cond, ◌&&◌, List, length, Some, None, Ok, Err, fold, filter, Option, Result, ◌==◌, nat_eq, nat_le}
+use Rattle.std.specs.Prelude.{◌≡◌, ℕ, ◌+◌, max, Bool, true, false, ◌&&◌, List, length, Some, None, Ok, Err, fold, filter, Option, Result, ◌==◌, nat_eq, nat_le}
 use Rattle.action.specs.declared.orders.Action.{Action}
 use Rattle.action.specs.declared.refusals.Refusal.{Refusal}
 use Rattle.action.specs.Lawful.{by_history, by_table, unless}
 use Rattle.action.specs.Order.{placed}
 use Rattle.kind.specs.Meaning.{Meaning}
 use Rattle.message.specs.declared.records.Interval.{Interval}
-use Rattle.message.specs.declared.records.Record.{Record}
-use Rattle.message.specs.declared.records.Record.TheVariants as RecordKinds
 use Rattle.message.specs.declared.faults.ReaderFault.{ReaderFault}
 use Rattle.message.specs.Faults as ReaderFaults
 use Rattle.message.specs.Checks.{Longest, Refused}
@@ -16,13 +14,11 @@ use Rattle.message.specs.Lawful.{LawfulMessage}
 use Rattle.message.specs.Walks.{first_of}
 use Rattle.row.specs.Passes.{is_ahead_in, is_behind_in, is_new_in, raised_by}
 use Rattle.table.specs.declared.faults.TableFault.{TableFault}
-use Rattle.row.specs.declared.intervals.Test.{Test}
-use Rattle.row.specs.declared.intervals.Test.TheVariants.{Behind, Ahead}
 use Rattle.row.specs.declared.rows.Row.{Row}
 use Rattle.table.specs.Faults.{shown}
 use Rattle.table.specs.Transactions.{figure_after}
 use Rattle.table.specs.View.{View}
-use Rattle.row.specs.Entries.{each_row, entry_in, raised}
+use Rattle.row.specs.Entries.{each_row}
 
 -- the table has not reached the action yet
 abbrev pub is_new : View → Action → Bool

@@ -13,7 +13,7 @@ use Rattle.row.specs.declared.rows.Row.{Row}
 use Rattle.table.specs.declared.tickets.Ticket.{Ticket}
 use Rattle.table.specs.Faults.{shown}
 use Rattle.table.specs.View.{View, entry}
-use Rattle.row.specs.Entries.{at, each_row, raised}
+use Rattle.row.specs.Entries.{each_row, raised}
 
 -- OPEN
 

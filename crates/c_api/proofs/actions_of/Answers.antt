@@ -1,7 +1,6 @@
-use Rattle.std.proofs.Common.{◌≡◌, ◌≤◌, pos, Ok, arith, w64, to_z}
+use Rattle.std.proofs.Common.{Ok, arith, w64}
 use Rattle.std.proofs.lemmas.Int.{to_z_pos}
 use Rattle.message.proofs.Counts.{few_actions}
-use Rattle.c_api.specs.Call.{Checked}
 use Rattle.c_api.proofs.actions_of.Goals as goal
 
 pub overflow_cast-result : goal.overflow_cast-result

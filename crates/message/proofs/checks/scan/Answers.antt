@@ -1,9 +1,6 @@
-use Rattle.std.proofs.Common.{◌≡◌, ℕ, ◌+◌, ◌<◌, ◌≤◌, Bool, true, false, cond, [], ◌∷◌, ◌++◌, length, get_or, Ok, count_by, sym, refl, ap, ◌∙◌, subst, arith}
-use Rattle.std.proofs.lemmas.List.Sums.{sum_by_push}
-use Rattle.message.specs.Format.{record_bytes}
+use Rattle.std.proofs.Common.{◌≡◌, ℕ, true, false, Ok, count_by, sym, refl, ◌∙◌, subst, arith}
 use Rattle.message.specs.Reading.{Begun, Next, Scanned, is_action}
 use Rattle.message.proofs.Steps.{begun_none, counted_more, read_all, read_more, record_size}
-use Rattle.message.proofs.checks.scan.Given as Given
 use Rattle.message.proofs.checks.scan.Goals as goal
 
 pub loop-found-init : goal.loop-found-init

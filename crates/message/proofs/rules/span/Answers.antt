@@ -1,4 +1,4 @@
-use Rattle.std.proofs.Common.{sym, arith, rules}
+use Rattle.std.proofs.Common.{sym, rules}
 use Rattle.std.proofs.lemmas.List.{get_or_past}
 use Rattle.message.specs.Progress.{no_span}
 use Rattle.message.proofs.rules.span.Goals as goal

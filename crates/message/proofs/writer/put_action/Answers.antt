@@ -1,4 +1,4 @@
-use Rattle.std.proofs.Common.{subst, rules}
+use Rattle.std.proofs.Common.{subst}
 use Rattle.message.specs.Buffer.{Put}
 use Rattle.message.proofs.writer.put_action.Goals as goal
 

@@ -1,6 +1,6 @@
-use Rattle.std.proofs.Common.{◌≡◌, ℕ, ◌+◌, cond, ◌∷◌, length, drop, Some, Option, sym, ap, ◌∙◌, arith}
+use Rattle.std.proofs.Common.{◌≡◌, ◌+◌, cond, ◌∷◌, length, drop, Some, sym, ap, ◌∙◌, arith}
 use Rattle.message.specs.Format.{record_bytes}
-use Rattle.message.specs.Walks.{article_after, first_of, records_in, size_in}
+use Rattle.message.specs.Walks.{article_after, first_of, records_in}
 use Rattle.message.proofs.Walking.{first_none, first_some, records_end, records_from}
 use Rattle.row.specs.Passes.{tested}
 use Rattle.row.proofs.intervals.first_interval.Goals.{in-Some-interval+else-meets, in_default-interval}

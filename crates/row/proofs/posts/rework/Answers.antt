@@ -1,7 +1,7 @@
-use Rattle.std.proofs.Common.{◌≡◌, ◌<◌, map, length, get_or, fold, sym, ap, ◌∙◌, arith}
+use Rattle.std.proofs.Common.{◌<◌, length, fold, sym, ◌∙◌, arith}
 use Rattle.std.proofs.lemmas.List.{take_all}
 use Rattle.std.proofs.lemmas.List.Sums.{fold_more}
-use Rattle.row.specs.Rows.{on_row, restarted, stepped_row}
+use Rattle.row.specs.Rows.{on_row, stepped_row}
 use Rattle.row.proofs.posts.rework.Goals as goal
 
 pub loop-i-preserved : goal.loop-i-preserved

@@ -1,4 +1,4 @@
-use Rattle.std.proofs.Common.{◌≡◌, ◌+◌, ◌≤◌, length, fold, sym, ap, ◌∙◌, arith}
+use Rattle.std.proofs.Common.{◌≡◌, ◌+◌, length, fold, sym, ap, ◌∙◌, arith}
 use Rattle.action.specs.Order.{placed}
 use Rattle.action.proofs.Placing.{length_placed}
 use Rattle.message.specs.Format.{record_bytes}

@@ -1,9 +1,8 @@
-use Rattle.std.proofs.Common.{◌≡◌, ℕ, ◌+◌, max, List, ◌∷◌, length, drop, fold, sym, ap, ◌∙◌, arith}
+use Rattle.std.proofs.Common.{◌≡◌, ℕ, ◌+◌, max, ◌∷◌, length, drop, fold, sym, ap, ◌∙◌, arith}
 use Rattle.message.specs.declared.records.Interval.{Interval}
 use Rattle.message.specs.Format.{record_bytes}
 use Rattle.message.specs.Walks.{article_after, intervals_of, records_in}
 use Rattle.message.proofs.Walking.{intervals_none, intervals_some, records_end, records_from}
-use Rattle.row.specs.declared.rows.Row.{Row}
 use Rattle.row.specs.Rows.{raised_rows}
 use Rattle.row.proofs.takes.raise_all.Goals.{in-Some-interval, in_default-interval}
 use Rattle.row.proofs.takes.raise_all.Goals as goal

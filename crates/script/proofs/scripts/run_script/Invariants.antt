@@ -1,4 +1,4 @@
-use Rattle.std.proofs.Common.{◌≡◌, ℕ, List, ◌++◌, length, take, vec_items}
+use Rattle.std.proofs.Common.{◌≡◌, ℕ, List, ◌++◌, length, vec_items}
 use Rattle.script.specs.Desk.{desk_view}
 use Rattle.script.specs.Scripts.{lines, ran_all, script}
 use Rattle.script.proofs.scripts.run_script.Given as goal

@@ -1,6 +1,5 @@
 use Rattle.std.proofs.Common.{sym, ap, rules}
 use Rattle.std.proofs.lemmas.List.{set_past}
-use Rattle.row.specs.declared.rows.Row.{Row}
 use Rattle.row.proofs.rows.Row.raise.Goals as goal
 
 pub returns-else-z-lt8 : goal.returns-else-z-lt8

@@ -1,4 +1,4 @@
-use Rattle.std.proofs.Common.{sym, ap, ◌∙◌}
+use Rattle.std.proofs.Common.{ap, ◌∙◌}
 use Rattle.script.specs.Desk.{desk_view, ran_command}
 use Rattle.script.proofs.desks.Desk.run.Goals as goal
 

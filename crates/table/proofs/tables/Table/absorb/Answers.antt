@@ -1,6 +1,6 @@
-use Rattle.std.proofs.Common.{◌≡◌, ℕ, max, cond, map, take, fold, filter, sym, ap, ◌∙◌}
+use Rattle.std.proofs.Common.{◌≡◌, ℕ, max, cond, map, take, fold, filter, ap, ◌∙◌}
 use Rattle.message.specs.declared.records.Interval.{Interval}
-use Rattle.message.specs.Format.{records, stretches}
+use Rattle.message.specs.Format.{stretches}
 use Rattle.message.specs.Walks.{actions_of, intervals_of, records_in, sender_in}
 use Rattle.message.proofs.Carried.{carried_of, stretches_of}
 use Rattle.message.proofs.Walking.{record_begins}

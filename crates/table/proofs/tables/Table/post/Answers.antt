@@ -1,8 +1,8 @@
-use Rattle.std.proofs.Common.{◌≡◌, ◌+◌, ◌-◌, false, cond, [], ◌++◌, map, length, take, fold, sym, refl, ap, ◌∙◌, arith}
+use Rattle.std.proofs.Common.{◌≡◌, ◌+◌, ◌-◌, false, cond, [], ◌++◌, map, length, take, fold, sym, ap, ◌∙◌, arith}
 use Rattle.std.proofs.lemmas.List.{length-take-le}
 use Rattle.row.specs.Rows.{on_row, raised_row, restarted, stepped_row}
 use Rattle.table.specs.Transactions.{committed}
-use Rattle.table.specs.View.{View, view}
+use Rattle.table.specs.View.{view}
 use Rattle.table.proofs.Posting.{rows_posted}
 use Rattle.table.proofs.tables.Table.post.Goals as goal
 

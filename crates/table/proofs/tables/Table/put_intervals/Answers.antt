@@ -1,9 +1,9 @@
-use Rattle.std.proofs.Common.{◌≡◌, ℕ, ◌+◌, ◌*◌, ◌≤◌, map, length, sym, refl, ap, ◌∙◌, arith, rules}
+use Rattle.std.proofs.Common.{◌≡◌, ◌*◌, map, length, sym, refl, ap, ◌∙◌, arith}
 use Rattle.std.specs.List.{range_with_len, flat_map}
 use Rattle.std.proofs.lemmas.List.FromFn.{length-map-range_with_len, map-range_with_len_more}
 use Rattle.message.specs.Buffer.{overwritten}
 use Rattle.message.specs.Format.{interval_bytes}
-use Rattle.message.proofs.Buffers.{length_overwritten, overwritten_none}
+use Rattle.message.proofs.Buffers.{overwritten_none}
 use Rattle.message.proofs.Formats.{length_joined, written_more}
 use Rattle.table.specs.Offers.{offer_interval}
 use Rattle.table.specs.View.{view}

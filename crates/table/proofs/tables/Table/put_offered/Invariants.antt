@@ -1,4 +1,4 @@
-use Rattle.std.proofs.Common.{◌≡◌, ◌+◌, ◌*◌, ◌≤◌, length, take, filter}
+use Rattle.std.proofs.Common.{◌≡◌, ◌+◌, ◌*◌, length, take, filter}
 use Rattle.std.specs.List.{flat_map}
 use Rattle.action.specs.Bytes.{action_bytes}
 use Rattle.message.specs.Buffer.{overwritten}

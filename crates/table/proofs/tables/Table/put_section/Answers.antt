@@ -1,10 +1,10 @@
-use Rattle.std.proofs.Common.{◌≡◌, ◌+◌, ◌*◌, ◌≤◌, max, [], ◌∷◌, ◌++◌, length, sym, refl, ap, ◌∙◌, arith}
+use Rattle.std.proofs.Common.{◌≡◌, ◌+◌, max, ◌++◌, sym, ap, ◌∙◌, arith}
 use Rattle.std.specs.List.{flat_map}
 use Rattle.std.proofs.lemmas.List.{append_assoc}
 use Rattle.action.specs.Bytes.{action_bytes}
 use Rattle.kind.specs.Working.{on}
 use Rattle.message.specs.Buffer.{overwritten}
-use Rattle.message.specs.Format.{head_of, interval_bytes, section_bytes, section_format}
+use Rattle.message.specs.Format.{head_of, interval_bytes, section_bytes}
 use Rattle.message.proofs.Buffers.{written_then}
 use Rattle.message.proofs.Formats.{section_is}
 use Rattle.table.specs.Transactions.{latest, transaction_section}

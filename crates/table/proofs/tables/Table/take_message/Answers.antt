@@ -1,7 +1,7 @@
-use Rattle.std.proofs.Common.{◌≡◌, ℕ, ◌+◌, ◌≤◌, max, length, Some, fold, filter, sym, refl, ap, ◌∙◌, arith}
+use Rattle.std.proofs.Common.{◌≡◌, ℕ, max, length, Some, fold, filter, sym, refl, ap, ◌∙◌, arith}
 use Rattle.action.specs.Lawful.{by_history}
 use Rattle.message.specs.declared.records.Interval.{Interval}
-use Rattle.message.specs.Format.{records, stretches}
+use Rattle.message.specs.Format.{stretches}
 use Rattle.message.specs.Walks.{actions_of, first_of, intervals_of, records_in}
 use Rattle.message.proofs.Carried.{carried_of, stretches_of}
 use Rattle.message.proofs.Walking.{lawful_records}

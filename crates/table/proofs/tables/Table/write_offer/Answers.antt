@@ -1,14 +1,13 @@
-use Rattle.std.proofs.Common.{◌≡◌, ℕ, ◌+◌, ◌*◌, ◌≤◌, ◌++◌, map, length, None, Ok, sym, refl, ap, ◌∙◌, subst, arith, rules}
+use Rattle.std.proofs.Common.{◌≡◌, ◌+◌, ◌*◌, ◌++◌, length, sym, refl, ap, ◌∙◌, subst, arith}
 use Rattle.std.specs.List.{flat_map}
 use Rattle.std.proofs.lemmas.List.FromFn.{length-map-range_with_len}
 use Rattle.std.proofs.lemmas.List.{length-append}
-use Rattle.std.proofs.lemmas.Bool.Decides.{nat_tests}
 use Rattle.action.specs.Bytes.{action_bytes}
 use Rattle.message.specs.Buffer.{overwritten}
 use Rattle.message.specs.Format.{header_bytes, interval_bytes, section_bytes}
 use Rattle.message.proofs.Buffers.{written_then}
 use Rattle.message.proofs.Formats.{length_joined}
-use Rattle.table.specs.Offers.{Offered, offer_bytes, offer_interval}
+use Rattle.table.specs.Offers.{Offered, offer_interval}
 use Rattle.table.specs.View.{view}
 use Rattle.table.proofs.Filtered.{ok_same}
 use Rattle.table.proofs.Offering.{actions, head, header, intervals, length_offer, offer_granted, offer_is, offer_short}

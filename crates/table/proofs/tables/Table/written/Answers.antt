@@ -1,4 +1,4 @@
-use Rattle.std.proofs.Common.{◌≡◌, ◌<◌, max, length, get_or, take, fold, sym, ap, ◌∙◌, arith}
+use Rattle.std.proofs.Common.{◌<◌, max, length, get_or, take, fold, sym, ap, ◌∙◌, arith}
 use Rattle.std.proofs.lemmas.List.{length_push}
 use Rattle.std.proofs.lemmas.List.Sums.{fold_push}
 use Rattle.action.specs.declared.orders.Action.{Action}
