@@ -49,6 +49,22 @@ def files(root, ends):
                 yield os.path.join(folder, name)
 
 
+# A word of the library under the name of another of its words, which the gate refuses: it goes by its own name.
+RENAMED = re.compile(r"(?<=[{ ])([\w'-]+) as (All)(?=[,}])")
+
+
+def with_own_names(text):
+    """The text with each such word written out."""
+    for own, alias in set(RENAMED.findall(text)):
+        text = text.replace(f"{own} as {alias}", own)
+        lines = text.split("\n")
+        for i, line in enumerate(lines):
+            if not line.lstrip().startswith(("-- ", "// ", "use ", "ghost use ")):
+                lines[i] = re.sub(rf"(?<![^\s(){{}}.;,@«»]){alias}(?![^\s(){{}}.;,@«»])", own, line)
+        text = "\n".join(lines)
+    return text
+
+
 def is_own(path, crates):
     steps = path.split(".")
     return steps[0] == "Rattle" and len(steps) > 1 and steps[1] in crates
@@ -136,7 +152,7 @@ def main(root):
                 return word
             return own[word]
 
-        new = re.sub(BOUND, put, text)
+        new = with_own_names(re.sub(BOUND, put, text))
         if new != text:
             changed += 1
             with open(path, "w", encoding="utf-8") as f:

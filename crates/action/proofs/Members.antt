@@ -1,7 +1,7 @@
 -- The members of a list with one more in front, of two lists put together, and of those that pass a test.
 -- Assumes nothing.
 use Rattle.std.proofs.Common.{◌≡◌, ℕ, zero, suc, ◌<◌, Bool, true, false, cond, ◌⊎◌, List, [], ◌∷◌, ◌++◌, length, filter, sym, refl, ap, ◌∙◌, subst, inl, inr, ⊎_elim, arith}
-use Rattle.std.specs.List.{HoldsAt, ContainsAt as Has, AllByRecursion as All}
+use Rattle.std.specs.List.{HoldsAt, ContainsAt as Has, AllByRecursion}
 use Rattle.std.proofs.ByRecursion.{all-has, all_has_itself, all_kept_by, All-weaker, has_append_left, has_append_right, kept_by_passes}
 
 module _ {X : Type 0} where
@@ -21,7 +21,7 @@ module _ {X : Type 0} where
       at zero inside is = inl (is x)
       at (suc k) inside is = inr (k, omega arith, is)
 
-  pub all_from_has : (P : X → Type 0) (xs : List X) → ((x : X) → Has xs x → P x) → All P xs
+  pub all_from_has : (P : X → Type 0) (xs : List X) → ((x : X) → Has xs x → P x) → AllByRecursion P xs
   all_from_has P xs each = All-weaker (Has xs) P each xs (all_has_itself xs)
 
   pub has_append : (xs ys : List X) (x : X) → Has xs x ⊎ Has ys x → Has (xs ++ ys) x
@@ -35,7 +35,7 @@ module _ {X : Type 0} where
       (has_cons_cases z (zs ++ ys) x h)
 
   -- what holds of both parts together holds of each
-  pub all_append_parts : (P : X → Type 0) (xs ys : List X) → All P (xs ++ ys) → All P xs × All P ys
+  pub all_append_parts : (P : X → Type 0) (xs ys : List X) → AllByRecursion P (xs ++ ys) → AllByRecursion P xs × AllByRecursion P ys
   all_append_parts P [] ys h = (tt, h)
   all_append_parts P (x ∷ xs) ys h = let more = all_append_parts P xs ys h.1 in ((h.0, more.0), more.1)
 
@@ -54,10 +54,10 @@ module _ {X : Type 0} (p : X → Bool) where
   pub has_kept_by_parts : (xs : List X) (x : X) → Has (filter p xs) x → Has xs x × (p x ≡ true)
   has_kept_by_parts xs x h = (all-has (Has xs) (filter p xs) x (all_kept_by p (Has xs) xs (all_has_itself xs)) h, all-has (λ y. p y ≡ true) (filter p xs) x (kept_by_passes p xs) h)
 
-  pub kept_by_all : (xs : List X) → All (λ x. p x ≡ true) xs → filter p xs ≡ xs
+  pub kept_by_all : (xs : List X) → AllByRecursion (λ x. p x ≡ true) xs → filter p xs ≡ xs
   kept_by_all [] h = refl
   kept_by_all (x ∷ xs) h = λ i. cond (h.0 i) (x ∷ kept_by_all xs h.1 i) (kept_by_all xs h.1 i)
 
-  pub kept_by_none : (xs : List X) → All (λ x. p x ≡ false) xs → filter p xs ≡ []
+  pub kept_by_none : (xs : List X) → AllByRecursion (λ x. p x ≡ false) xs → filter p xs ≡ []
   kept_by_none [] h = refl
   kept_by_none (x ∷ xs) h = λ i. cond (h.0 i) (x ∷ kept_by_none xs h.1 i) (kept_by_none xs h.1 i)

@@ -1,7 +1,7 @@
 -- Actions put in at their places, one and many: what the list then has, and that it stays in order. Assumes nothing.
 use Rattle.std.proofs.Common.{◌≡◌, ℕ, ◌+◌, Bool, true, false, cond, not, ◌⊎◌, List, [], ◌∷◌, ◌++◌, reverse, length, take, drop, fold, sym, refl, ap, ◌∙◌, subst, inl, inr, ⊎_elim, append_assoc, append-nil, arith}
 use mathlib.Core.List.{reverse-cons, reverse-reverse}
-use Rattle.std.specs.List.{ContainsAt as Has, suffix_len, prefix_len, AllByRecursion as All}
+use Rattle.std.specs.List.{ContainsAt as Has, suffix_len, prefix_len, AllByRecursion}
 use Rattle.std.proofs.ByRecursion.{All-append, all-has, All-push, All-weaker, has_append_left, has_append_right}
 use Rattle.std.proofs.lemmas.List.{drop_at, length-append, take_at}
 use Rattle.std.proofs.lemmas.Bool.{not-true, not-false}
@@ -25,7 +25,7 @@ record Cut {X : Type 0} (p : X → Bool) (xs : List X) (n : ℕ) : Type 0 where
   end : List X
   whole : xs ≡ front ++ end
   long : length end ≡ n
-  passes : All (λ x. p x ≡ true) end
+  passes : AllByRecursion (λ x. p x ≡ true) end
   last : LastFails p front
 
 module _ {X : Type 0} (p : X → Bool) where
@@ -60,7 +60,7 @@ pub record Placing (xs : List Action) (x : Action) : Type 0 where
   pub after : List Action
   pub whole : xs ≡ before ++ after
   pub put : placed xs x ≡ before ++ x ∷ after
-  pub none_after : All (λ y. precedes y x ≡ false) after
+  pub none_after : AllByRecursion (λ y. precedes y x ≡ false) after
   pub last : (before ≡ []) ⊎ ((us : List Action) × (u : Action) × (before ≡ us ++ u ∷ []) × (precedes u x ≡ true))
 
 pub placing : (xs : List Action) (x : Action) → Placing xs x
@@ -85,11 +85,11 @@ length_placed xs x =
     let g = placing xs x in
     omega (arith, ap length g.put, length-append g.before (x ∷ g.after), ap length g.whole, length-append g.before g.after)
 
-pub placed_all : (P : Action → Type 0) (xs : List Action) (x : Action) → All P xs → P x → All P (placed xs x)
+pub placed_all : (P : Action → Type 0) (xs : List Action) (x : Action) → AllByRecursion P xs → P x → AllByRecursion P (placed xs x)
 placed_all P xs x all one =
     let g = placing xs x in
-    let parts = all_append_parts P g.before g.after (subst (All P) g.whole all) in
-    subst (All P) (sym g.put) (All-append P g.before (x ∷ g.after) parts.0 (one, parts.1))
+    let parts = all_append_parts P g.before g.after (subst (AllByRecursion P) g.whole all) in
+    subst (AllByRecursion P) (sym g.put) (All-append P g.before (x ∷ g.after) parts.0 (one, parts.1))
 
 pub has_placed_cases : (xs : List Action) (x y : Action) → Has (placed xs x) y → Has xs y ⊎ (y ≡ x)
 has_placed_cases xs x y h = all-has (λ z. Has xs z ⊎ (z ≡ x)) (placed xs x) y (placed_all (λ z. Has xs z ⊎ (z ≡ x)) xs x (all_from_has (λ z. Has xs z ⊎ (z ≡ x)) xs (λ z k. inl k)) (inr refl)) h
@@ -110,43 +110,43 @@ has_placed xs x y h = subst (λ (l : List Action). Has l y) (sym g.put) (⊎_eli
     new e = has_append_right g.before (x ∷ g.after) y (subst (Has (x ∷ g.after)) (sym e) (has_first x g.after))
 
 -- all up to the last that precedes x precede x
-all_precede : (x : Action) (xs : List Action) → Ascending xs → (xs ≡ []) ⊎ ((us : List Action) × (u : Action) × (xs ≡ us ++ u ∷ []) × (precedes u x ≡ true)) → All (λ y. precedes y x ≡ true) xs
-all_precede x xs up (inl none) = subst (All (λ y. precedes y x ≡ true)) (sym none) tt
+all_precede : (x : Action) (xs : List Action) → Ascending xs → (xs ≡ []) ⊎ ((us : List Action) × (u : Action) × (xs ≡ us ++ u ∷ []) × (precedes u x ≡ true)) → AllByRecursion (λ y. precedes y x ≡ true) xs
+all_precede x xs up (inl none) = subst (AllByRecursion (λ y. precedes y x ≡ true)) (sym none) tt
 all_precede x xs up (inr h) =
     let us : List Action = h.0 in
     let u : Action = h.1 in
     let parts = ascending_parts us (u ∷ []) (subst Ascending h.2 up) in
-    let each : All (λ y. precedes y x ≡ true) us = All-weaker (λ y. Leads y (u ∷ [])) (λ y. precedes y x ≡ true) (λ y k. precedes_trans y u x k.0 h.3) us parts.2 in
-    subst (All (λ y. precedes y x ≡ true)) (sym h.2) (All-push (λ y. precedes y x ≡ true) us u each h.3)
+    let each : AllByRecursion (λ y. precedes y x ≡ true) us = All-weaker (λ y. Leads y (u ∷ [])) (λ y. precedes y x ≡ true) (λ y k. precedes_trans y u x k.0 h.3) us parts.2 in
+    subst (AllByRecursion (λ y. precedes y x ≡ true)) (sym h.2) (All-push (λ y. precedes y x ≡ true) us u each h.3)
 
-pub placed_ranked : (xs : List Action) (x : Action) → Ascending xs → All (Ranked x) xs → Ascending (placed xs x)
+pub placed_ranked : (xs : List Action) (x : Action) → Ascending xs → AllByRecursion (Ranked x) xs → Ascending (placed xs x)
 placed_ranked xs x up ranked =
     let g = placing xs x in
     let parts = ascending_parts g.before g.after (subst Ascending g.whole up) in
-    let behind = (all_append_parts (Ranked x) g.before g.after (subst (All (Ranked x)) g.whole ranked)).1 in
-    let earlier : All (λ y. precedes y x ≡ true) g.before = all_precede x g.before parts.0 g.last in
+    let behind = (all_append_parts (Ranked x) g.before g.after (subst (AllByRecursion (Ranked x)) g.whole ranked)).1 in
+    let earlier : AllByRecursion (λ y. precedes y x ≡ true) g.before = all_precede x g.before parts.0 g.last in
     let leads : Leads x g.after = leads_from_all x g.after (others g.after behind g.none_after) in
     subst Ascending (sym g.put) (ascending_together g.before (x ∷ g.after) parts.0 (leads, parts.1) (both g.after g.before earlier parts.2))
   where
-    others : (ys : List Action) → All (Ranked x) ys → All (λ y. precedes y x ≡ false) ys → All (λ y. precedes x y ≡ true) ys
+    others : (ys : List Action) → AllByRecursion (Ranked x) ys → AllByRecursion (λ y. precedes y x ≡ false) ys → AllByRecursion (λ y. precedes x y ≡ true) ys
     others [] a b = tt
     others (y ∷ ys) a b = (ranked_else x y a.0 b.0, others ys a.1 b.1)
 
-    both : (zs ys : List Action) → All (λ y. precedes y x ≡ true) ys → All (λ y. Leads y zs) ys → All (λ y. Leads y (x ∷ zs)) ys
+    both : (zs ys : List Action) → AllByRecursion (λ y. precedes y x ≡ true) ys → AllByRecursion (λ y. Leads y zs) ys → AllByRecursion (λ y. Leads y (x ∷ zs)) ys
     both zs [] a b = tt
     both zs (y ∷ ys) a b = ((a.0, b.0), both zs ys a.1 b.1)
 
-pub placed_ascending : (xs : List Action) (x : Action) → Ascending xs → All (Apart x) xs → Ascending (placed xs x)
+pub placed_ascending : (xs : List Action) (x : Action) → Ascending xs → AllByRecursion (Apart x) xs → Ascending (placed xs x)
 placed_ascending xs x up apart = placed_ranked xs x up (All-weaker (Apart x) (Ranked x) (apart_ranked x) xs apart)
 
-pub placed_distinct : (xs : List Action) (x : Action) → Distinct xs → All (Apart x) xs → Distinct (placed xs x)
+pub placed_distinct : (xs : List Action) (x : Action) → Distinct xs → AllByRecursion (Apart x) xs → Distinct (placed xs x)
 placed_distinct xs x distinct apart =
     let g = placing xs x in
     let parts = distinct_append_parts g.before g.after (subst Distinct g.whole distinct) in
-    let from = all_append_parts (Apart x) g.before g.after (subst (All (Apart x)) g.whole apart) in
+    let from = all_append_parts (Apart x) g.before g.after (subst (AllByRecursion (Apart x)) g.whole apart) in
     subst Distinct (sym g.put) (distinct_append g.before (x ∷ g.after) parts.0 (from.1, parts.1) (both g.after g.before from.0 parts.2))
   where
-    both : (zs ys : List Action) → All (Apart x) ys → All (λ y. All (Apart y) zs) ys → All (λ y. All (Apart y) (x ∷ zs)) ys
+    both : (zs ys : List Action) → AllByRecursion (Apart x) ys → AllByRecursion (λ y. AllByRecursion (Apart y) zs) ys → AllByRecursion (λ y. AllByRecursion (Apart y) (x ∷ zs)) ys
     both zs [] a b = tt
     both zs (y ∷ ys) a b = ((apart_sym x y a.0, b.0), both zs ys a.1 b.1)
 
@@ -156,7 +156,7 @@ pub length_folded_placed : (xs new : List Action) → length (fold placed xs new
 length_folded_placed xs [] = omega arith
 length_folded_placed xs (x ∷ new) = length_folded_placed (placed xs x) new ∙ omega (arith, length_placed xs x)
 
-pub folded_placed_all : (P : Action → Type 0) (xs new : List Action) → All P xs → All P new → All P (fold placed xs new)
+pub folded_placed_all : (P : Action → Type 0) (xs new : List Action) → AllByRecursion P xs → AllByRecursion P new → AllByRecursion P (fold placed xs new)
 folded_placed_all P xs [] all more = all
 folded_placed_all P xs (x ∷ new) all more = folded_placed_all P (placed xs x) new (placed_all P xs x all more.0) more.1
 
@@ -173,20 +173,20 @@ has_folded_placed_cases xs new y h =
     all-has Old (fold placed xs new) y (folded_placed_all Old xs new (all_from_has Old xs (λ z k. inl k)) (all_from_has Old new (λ z k. inr k))) h
 
 -- what holds between each of the others and the list, and between it and one more, holds between it and the list with that one
-others_placed : (R : Action → Action → Type 0) → ((x y : Action) → R x y → R y x) → (xs : List Action) (x : Action) (new : List Action) → All (R x) new → All (λ z. All (R z) xs) new → All (λ z. All (R z) (placed xs x)) new
+others_placed : (R : Action → Action → Type 0) → ((x y : Action) → R x y → R y x) → (xs : List Action) (x : Action) (new : List Action) → AllByRecursion (R x) new → AllByRecursion (λ z. AllByRecursion (R z) xs) new → AllByRecursion (λ z. AllByRecursion (R z) (placed xs x)) new
 others_placed R swap xs x [] a b = tt
 others_placed R swap xs x (z ∷ new) a b = (placed_all (R z) xs x b.0 (swap x z a.0), others_placed R swap xs x new a.1 b.1)
 
-pub folded_placed_ranked : (xs new : List Action) → Ascending xs → AllRanked new → All (λ x. All (Ranked x) xs) new → Ascending (fold placed xs new)
+pub folded_placed_ranked : (xs new : List Action) → Ascending xs → AllRanked new → AllByRecursion (λ x. AllByRecursion (Ranked x) xs) new → Ascending (fold placed xs new)
 folded_placed_ranked xs [] up ranked among = up
 folded_placed_ranked xs (x ∷ new) up ranked among =
     folded_placed_ranked (placed xs x) new (placed_ranked xs x up among.0) ranked.1 (others_placed Ranked ranked_sym xs x new ranked.0 among.1)
 
-pub folded_placed_ascending : (xs new : List Action) → Ascending xs → Distinct new → All (λ x. All (Apart x) xs) new → Ascending (fold placed xs new)
+pub folded_placed_ascending : (xs new : List Action) → Ascending xs → Distinct new → AllByRecursion (λ x. AllByRecursion (Apart x) xs) new → Ascending (fold placed xs new)
 folded_placed_ascending xs new up distinct apart =
-    folded_placed_ranked xs new up (distinct_ranked new distinct) (All-weaker (λ x. All (Apart x) xs) (λ x. All (Ranked x) xs) (λ x. All-weaker (Apart x) (Ranked x) (apart_ranked x) xs) new apart)
+    folded_placed_ranked xs new up (distinct_ranked new distinct) (All-weaker (λ x. AllByRecursion (Apart x) xs) (λ x. AllByRecursion (Ranked x) xs) (λ x. All-weaker (Apart x) (Ranked x) (apart_ranked x) xs) new apart)
 
-pub folded_placed_distinct : (xs new : List Action) → Distinct xs → Distinct new → All (λ x. All (Apart x) xs) new → Distinct (fold placed xs new)
+pub folded_placed_distinct : (xs new : List Action) → Distinct xs → Distinct new → AllByRecursion (λ x. AllByRecursion (Apart x) xs) new → Distinct (fold placed xs new)
 folded_placed_distinct xs [] old distinct apart = old
 folded_placed_distinct xs (x ∷ new) old distinct apart =
     folded_placed_distinct (placed xs x) new (placed_distinct xs x old apart.0) distinct.1 (others_placed Apart apart_sym xs x new distinct.0 apart.1)
@@ -196,11 +196,11 @@ folded_placed_distinct xs (x ∷ new) old distinct apart =
 pub length_in_order : (xs : List Action) → length (in_order xs) ≡ length xs
 length_in_order xs = length_folded_placed [] xs ∙ omega arith
 
-pub in_order_all : (P : Action → Type 0) (xs : List Action) → All P xs → All P (in_order xs)
+pub in_order_all : (P : Action → Type 0) (xs : List Action) → AllByRecursion P xs → AllByRecursion P (in_order xs)
 in_order_all P xs all = folded_placed_all P [] xs tt all
 
 pub in_order_ascending : (xs : List Action) → Distinct xs → Ascending (in_order xs)
-in_order_ascending xs distinct = folded_placed_ascending [] xs tt distinct (all_from_has (λ x. All (Apart x) []) xs (λ x k. tt))
+in_order_ascending xs distinct = folded_placed_ascending [] xs tt distinct (all_from_has (λ x. AllByRecursion (Apart x) []) xs (λ x k. tt))
 
 pub has_in_order : (xs : List Action) (x : Action) → Has xs x → Has (in_order xs) x
 has_in_order xs x h = has_folded_placed [] xs x (inr h)

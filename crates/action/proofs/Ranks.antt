@@ -1,6 +1,6 @@
 -- Actions of which one precedes the other: all but those of the same time, coordinator and article. Assumes nothing.
 use Rattle.std.proofs.Common.{◌≡◌, Bool, true, false, cond, ◌⊎◌, List, [], ◌∷◌, ◌++◌, filter, sym, ◌∙◌, inl, inr, ⊎_elim, arith}
-use Rattle.std.specs.List.{AllByRecursion as All}
+use Rattle.std.specs.List.{AllByRecursion}
 use Rattle.std.proofs.ByRecursion.{All-append, all_kept_by, All-weaker}
 use Rattle.std.proofs.lemmas.Bool.{cases_Bool, cases_eq, true≢false}
 use Rattle.std.proofs.lemmas.Bool.Decides.{nat_tests}
@@ -14,7 +14,7 @@ Ranked x y = (precedes x y ≡ true) ⊎ (precedes y x ≡ true)
 -- each and all that follow it
 abbrev pub AllRanked : List Action → Type 0
 AllRanked [] = Unit {0}
-AllRanked (x ∷ xs) = All (Ranked x) xs × AllRanked xs
+AllRanked (x ∷ xs) = AllByRecursion (Ranked x) xs × AllRanked xs
 
 -- TWO
 
@@ -41,7 +41,7 @@ pub ascending_ranked : (xs : List Action) → Ascending xs → AllRanked xs
 ascending_ranked [] h = tt
 ascending_ranked (x ∷ xs) h = (All-weaker (λ y. precedes x y ≡ true) (Ranked x) (λ y k. inl k) xs (all_from_leads x xs h.0), ascending_ranked xs h.1)
 
-pub ranked_append : (xs ys : List Action) → AllRanked xs → AllRanked ys → All (λ x. All (Ranked x) ys) xs → AllRanked (xs ++ ys)
+pub ranked_append : (xs ys : List Action) → AllRanked xs → AllRanked ys → AllByRecursion (λ x. AllByRecursion (Ranked x) ys) xs → AllRanked (xs ++ ys)
 ranked_append [] ys a b h = b
 ranked_append (x ∷ xs) ys a b h = (All-append (Ranked x) xs ys a.0 h.0, ranked_append xs ys a.1 b h.1)
 

@@ -1,6 +1,6 @@
 -- Lists of actions in order: their parts, their members and their times. Assumes nothing.
 use Rattle.std.proofs.Common.{◌≡◌, ℕ, ◌<◌, ◌≤◌, Bool, true, false, cond, not, leb, ◌⊎◌, List, [], ◌∷◌, ◌++◌, filter, sym, refl, ap, ◌∙◌, subst, inl, inr, ⊎_elim, arith}
-use Rattle.std.specs.List.{ContainsAt as Has, AllByRecursion as All}
+use Rattle.std.specs.List.{ContainsAt as Has, AllByRecursion}
 use Rattle.std.proofs.ByRecursion.{all-has, All-weaker}
 use Rattle.std.proofs.lemmas.Bool.{cases_lt, le-leb, lt-leb}
 use Rattle.action.specs.declared.orders.Action.{Action}
@@ -10,11 +10,11 @@ use Rattle.action.proofs.Precedence.{not_later, precedes_asymmetric, precedes_by
 
 -- ONE BEFORE OTHERS
 
-pub leads_from_all : (x : Action) (ys : List Action) → All (λ y. precedes x y ≡ true) ys → Leads x ys
+pub leads_from_all : (x : Action) (ys : List Action) → AllByRecursion (λ y. precedes x y ≡ true) ys → Leads x ys
 leads_from_all x [] h = tt
 leads_from_all x (y ∷ ys) h = (h.0, leads_from_all x ys h.1)
 
-pub all_from_leads : (x : Action) (ys : List Action) → Leads x ys → All (λ y. precedes x y ≡ true) ys
+pub all_from_leads : (x : Action) (ys : List Action) → Leads x ys → AllByRecursion (λ y. precedes x y ≡ true) ys
 all_from_leads x [] h = tt
 all_from_leads x (y ∷ ys) h = (h.0, all_from_leads x ys h.1)
 
@@ -33,25 +33,25 @@ pub leads_append_parts : (x : Action) (ys zs : List Action) → Leads x (ys ++ z
 leads_append_parts x [] zs h = (tt, h)
 leads_append_parts x (y ∷ ys) zs h = let more = leads_append_parts x ys zs h.1 in ((h.0, more.0), more.1)
 
-pub leads_later : (c : ℕ) (x : Action) (ys : List Action) → x.time ≤ c → All (λ y. c < y.time) ys → Leads x ys
+pub leads_later : (c : ℕ) (x : Action) (ys : List Action) → x.time ≤ c → AllByRecursion (λ y. c < y.time) ys → Leads x ys
 leads_later c x [] h k = tt
 leads_later c x (y ∷ ys) h k = (precedes_by_time x y (omega (arith, k.0)), leads_later c x ys h k.1)
 
 -- PARTS
 
-pub ascending_parts : (xs ys : List Action) → Ascending (xs ++ ys) → Ascending xs × Ascending ys × All (λ x. Leads x ys) xs
+pub ascending_parts : (xs ys : List Action) → Ascending (xs ++ ys) → Ascending xs × Ascending ys × AllByRecursion (λ x. Leads x ys) xs
 ascending_parts [] ys h = (tt, h, tt)
 ascending_parts (x ∷ xs) ys h =
     let first = leads_append_parts x xs ys h.0 in
     let more = ascending_parts xs ys h.1 in
     ((first.0, more.0), more.1, (first.1, more.2))
 
-pub ascending_together : (xs ys : List Action) → Ascending xs → Ascending ys → All (λ x. Leads x ys) xs → Ascending (xs ++ ys)
+pub ascending_together : (xs ys : List Action) → Ascending xs → Ascending ys → AllByRecursion (λ x. Leads x ys) xs → Ascending (xs ++ ys)
 ascending_together [] ys a b h = b
 ascending_together (x ∷ xs) ys a b h = (leads_append x xs ys a.0 h.0, ascending_together xs ys a.1 b h.1)
 
 -- what is at most c comes before what is later
-pub ascending_append : (c : ℕ) (xs ys : List Action) → All (λ x. x.time ≤ c) xs → All (λ y. c < y.time) ys → Ascending xs → Ascending ys → Ascending (xs ++ ys)
+pub ascending_append : (c : ℕ) (xs ys : List Action) → AllByRecursion (λ x. x.time ≤ c) xs → AllByRecursion (λ y. c < y.time) ys → Ascending xs → Ascending ys → Ascending (xs ++ ys)
 ascending_append c xs ys h k a b = ascending_together xs ys a b (All-weaker (λ x. x.time ≤ c) (λ x. Leads x ys) (λ x le. leads_later c x ys le k) xs h)
 
 -- a part of a list in order is in order

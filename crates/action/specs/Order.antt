@@ -1,6 +1,6 @@
 -- The order of actions. Assumes nothing.
 use Rattle.std.specs.Prelude.{◌≡◌, ℕ, ◌-◌, Bool, true, not, ◌&&◌, ◌||◌, List, [], ◌∷◌, length, fold, ◌==◌, nat_lt}
-use Rattle.std.specs.List.{insert, suffix_len, AllByRecursion as All}
+use Rattle.std.specs.List.{insert, suffix_len, AllByRecursion}
 use Rattle.action.specs.declared.orders.Action.{Action}
 
 -- by time, then coordinator, then article
@@ -25,7 +25,7 @@ Apart x y = (x.coordinator ≡ y.coordinator) → (x.time ≡ y.time) → ⊥
 -- each is apart from all that follow it
 abbrev pub Distinct : List Action → Type 0
 Distinct [] = Unit {0}
-Distinct (x ∷ xs) = All (Apart x) xs × Distinct xs
+Distinct (x ∷ xs) = AllByRecursion (Apart x) xs × Distinct xs
 
 -- the place behind the last one that precedes the action
 abbrev pub place_of : List Action → Action → ℕ

@@ -2,7 +2,7 @@
 #![tactic(auto)]
 
 ghost use Rattle.std.specs.Prelude.{◌≡◌, true, map};
-ghost use Rattle.std.specs.List.{AllByRecursion as All};
+ghost use Rattle.std.specs.List.{AllByRecursion};
 ghost use Rattle.kind.specs.Working.{working};
 ghost use Rattle.examples.specs.Table.{Holds, at, doing, examples};
 
@@ -75,7 +75,7 @@ fn order_holds() -> bool
 // Does the code lead each example of figures and of the order to what it is expected to lead to? It
 // does, and the definitions do so for all examples, those of taking a message among them.
 pub fn examples_hold() -> bool
-    ensures { (result ≡ true) × All Holds examples }
+    ensures { (result ≡ true) × AllByRecursion Holds examples }
 {
     on_hand_holds() && set_prices_hold() && raised_prices_hold() && flags_hold() && order_holds()
 }

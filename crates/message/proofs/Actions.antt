@@ -1,6 +1,6 @@
 -- A section's actions: the test of each after those before it, and what all of them keep. Assumes nothing.
 use Rattle.std.proofs.Common.{◌≡◌, ℕ, ◌≤◌, true, cond, ◌&&◌, eqb, ltb, leb, List, [], ◌∷◌, get_or, sym, refl, ap, ◌∙◌, arith}
-use Rattle.std.specs.List.{AllByRecursion as All}
+use Rattle.std.specs.List.{AllByRecursion}
 use Rattle.std.proofs.lemmas.Bool.{and_from, and_parts, cond-true, eq-eqb, eqb-true, le-leb, leb-true, lt-ltb}
 use Rattle.action.specs.declared.orders.Action.{Action}
 use Rattle.action.specs.declared.setups.Setup.{Setup}
@@ -63,13 +63,13 @@ module _ (kind : Meaning) (p : Progress) (x : Action) where
 
 module _ (kind : Meaning) where
   -- the tests along the way say that all are fair, in order and after the last action before them
-  pub actions_told : (p : Progress) (xs : List Action) → Run (lawful_action kind) after_action p xs → All (Fair kind p.article p.spans) xs × Leads p.last xs × Ascending xs
+  pub actions_told : (p : Progress) (xs : List Action) → Run (lawful_action kind) after_action p xs → AllByRecursion (Fair kind p.article p.spans) xs × Leads p.last xs × Ascending xs
   actions_told p [] run = (tt, tt, tt)
   actions_told p (x ∷ xs) run =
       let here = action_told kind p x run.0 in
       let more = actions_told (after_action p x) xs run.1 in
       ((here.0, more.0), (here.1, leads_through p.last x xs here.1 more.1), (more.1, more.2))
 
-  pub actions_pass : (p : Progress) (xs : List Action) → All (Fair kind p.article p.spans) xs → Leads p.last xs → Ascending xs → Run (lawful_action kind) after_action p xs
+  pub actions_pass : (p : Progress) (xs : List Action) → AllByRecursion (Fair kind p.article p.spans) xs → Leads p.last xs → Ascending xs → Run (lawful_action kind) after_action p xs
   actions_pass p [] fair leads up = tt
   actions_pass p (x ∷ xs) fair leads up = (action_passes kind p x fair.0 leads.0, actions_pass (after_action p x) xs fair.1 up.0 up.1)

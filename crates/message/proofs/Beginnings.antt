@@ -1,6 +1,6 @@
 -- Lawful beginnings of the same bytes: of two, one begins the other. Assumes nothing.
 use Rattle.std.proofs.Common.{◌≡◌, ℕ, ◌-◌, ◌≤◌, Bool, true, false, cond, ltb, ◌⊎◌, List, [], ◌∷◌, ◌++◌, length, Some, fold, sym, refl, ap, ◌∙◌, subst, inl, inr, arith}
-use Rattle.std.specs.List.{flat_map, AllByRecursion as All}
+use Rattle.std.specs.List.{flat_map, AllByRecursion}
 use Rattle.std.proofs.lemmas.List.{append_assoc, append_cancel_left, append-nil, length-append}
 use Rattle.std.proofs.lemmas.Bool.{false≢true}
 use Rattle.action.specs.declared.refusals.Refusal.{Refusal}
@@ -46,7 +46,7 @@ starts r rs more = append_assoc (record_bytes r) (flat_map record_bytes rs) more
 module _ (kind : Meaning) (setup : Setup) where
   -- LISTS
 
-  pub beginnings : (p e f : Progress) (rs qs : List Record) (more less : List ℕ) → fold (onward kind setup) (Some p) rs ≡ Some e → fold (onward kind setup) (Some p) qs ≡ Some f → All Fitting rs → All Fitting qs → flat_map record_bytes rs ++ more ≡ flat_map record_bytes qs ++ less → Begins rs qs ⊎ Begins qs rs
+  pub beginnings : (p e f : Progress) (rs qs : List Record) (more less : List ℕ) → fold (onward kind setup) (Some p) rs ≡ Some e → fold (onward kind setup) (Some p) qs ≡ Some f → AllByRecursion Fitting rs → AllByRecursion Fitting qs → flat_map record_bytes rs ++ more ≡ flat_map record_bytes qs ++ less → Begins rs qs ⊎ Begins qs rs
   beginnings p e f [] qs more less h k fit git same = inl (qs, refl)
   beginnings p e f (r ∷ rs) [] more less h k fit git same = inr (r ∷ rs, refl)
   beginnings p e f (r ∷ rs) (q ∷ qs) more less h k fit git same =
@@ -101,7 +101,7 @@ module _ (kind : Meaning) (setup : Setup) where
       decide (inl ([], is)) = ([], sym (is ∙ append-nil rs) ∙ sym (append-nil qs))
       decide (inl (t ∷ ts, is)) =
           let f = first_on kind setup p q t ts (after_beginning rs (t ∷ ts) p q b.lawful (ap (reading kind setup) (sym is) ∙ c.lawful)) in
-          let fits = (all_parts Fitting rs (t ∷ ts) (subst (All Fitting) is c.fitting)).1.0 in
+          let fits = (all_parts Fitting rs (t ∷ ts) (subst (AllByRecursion Fitting) is c.fitting)).1.0 in
           let cut = ap (λ l. flat_map record_bytes l ++ less) is ∙ ap (λ l. l ++ less) (joined_append record_bytes rs (t ∷ ts)) ∙ append_assoc (flat_map record_bytes rs) (flat_map record_bytes (t ∷ ts)) less in
           let rest-is = append_cancel_left (flat_map record_bytes rs) rest _ (sym b.front ∙ c.front ∙ cut) in
           absurd (no_further p f.next at rest why t reason f.was_due f.passes fits (flat_map record_bytes ts ++ less, rest-is ∙ starts t ts less))

@@ -1,6 +1,6 @@
 -- What a message carries: its intervals and its actions, as its records have them. Assumes nothing.
 use Rattle.std.proofs.Common.{◌≡◌, ℕ, ◌+◌, ◌<◌, Bool, false, List, [], ◌∷◌, ◌++◌, map, Some, None, sym, refl, ap, ◌∙◌, subst, ⊎_elim, arith}
-use Rattle.std.specs.List.{flat_map, ContainsAt as Has, AllByRecursion as All}
+use Rattle.std.specs.List.{flat_map, ContainsAt as Has, AllByRecursion}
 use Rattle.std.proofs.ByRecursion.{All-append, all-has, all_has_itself, All-map, All-weaker, has_append_left, has_append_right}
 use Rattle.std.proofs.lemmas.Bool.{cases_Bool, cond-false, cond-true}
 use Rattle.action.specs.declared.orders.Action.{Action}
@@ -19,7 +19,7 @@ use Rattle.message.proofs.Intervals.{all_from_map}
 -- LISTS IN A ROW
 
 module _ {X Y : Type 0} (f : X → List Y) where
-  pub all_joined : (P : Y → Type 0) (xs : List X) → ((x : X) → Has xs x → All P (f x)) → All P (flat_map f xs)
+  pub all_joined : (P : Y → Type 0) (xs : List X) → ((x : X) → Has xs x → AllByRecursion P (f x)) → AllByRecursion P (flat_map f xs)
   all_joined P [] each = tt
   all_joined P (x ∷ xs) each = All-append P (f x) (flat_map f xs) (each x (has_first x xs)) (all_joined P xs (λ y h. each y (has_later x xs y h)))
 
@@ -37,7 +37,7 @@ has_map f xs x h = all-has (λ y. Has (map f xs) (f y)) xs x (all_from_map (Has 
 -- FINDING NONE
 
 -- no interval passes the test where none is found that does
-pub none_found : (test : ℕ → Interval → Bool) (at a : ℕ) (rs : List Record) → first_of test at a rs ≡ None → All (λ h. test h.0 h.1 ≡ false) (intervals_of a rs)
+pub none_found : (test : ℕ → Interval → Bool) (at a : ℕ) (rs : List Record) → first_of test at a rs ≡ None → AllByRecursion (λ h. test h.0 h.1 ≡ false) (intervals_of a rs)
 none_found test at a [] h = tt
 none_found test at a (RecordKinds.Header _ ∷ rs) h = none_found test (at + 6) a rs h
 none_found test at a (RecordKinds.Section s ∷ rs) h = none_found test (at + 5) s.article rs h
@@ -90,21 +90,21 @@ module _ (kind : Meaning) (setup : Setup) (m : Message) (l : LawfulMessage kind 
   lawful_section_lem : (s : Section) → Has m.sections s → LawfulSection kind setup s
   lawful_section_lem s h = all-has (LawfulSection kind setup) m.sections s l.sections h
 
-  pub stretches_lawful : All (λ h. (h.0 < setup.articles) × LawfulInterval setup h.1) (stretches m)
+  pub stretches_lawful : AllByRecursion (λ h. (h.0 < setup.articles) × LawfulInterval setup h.1) (stretches m)
   stretches_lawful =
       all_joined (λ s. map (λ i. (s.article, i)) s.intervals) (λ h. (h.0 < setup.articles) × LawfulInterval setup h.1) m.sections (λ s h.
       let lawful = lawful_section_lem s h in
       All-map (λ h. (h.0 < setup.articles) × LawfulInterval setup h.1) (λ i. (s.article, i)) s.intervals (All-weaker (LawfulInterval setup) (λ i. (s.article < setup.articles) × LawfulInterval setup i) (λ i k. (lawful.listed, k)) s.intervals lawful.intervals))
 
   -- an action's section carries it lawfully
-  pub carried_lawful : All (λ x. (s : Section) × LawfulSection kind setup s × LawfulAction kind s x) (carried m)
+  pub carried_lawful : AllByRecursion (λ x. (s : Section) × LawfulSection kind setup s × LawfulAction kind s x) (carried m)
   carried_lawful =
       all_joined (λ s. s.actions) (λ x. (s : Section) × LawfulSection kind setup s × LawfulAction kind s x) m.sections (λ s h.
       let lawful = lawful_section_lem s h in
       All-weaker (LawfulAction kind s) (λ x. (s : Section) × LawfulSection kind setup s × LawfulAction kind s x) (λ x k. (s, lawful, k)) s.actions lawful.actions)
 
   -- an interval of the message carries it
-  pub carried_within : All (λ x. (i : Interval) × Has (stretches m) (x.article, i) × Carries i x) (carried m)
+  pub carried_within : AllByRecursion (λ x. (i : Interval) × Has (stretches m) (x.article, i) × Carries i x) (carried m)
   carried_within =
       all_joined (λ s. s.actions) (λ x. (i : Interval) × Has (stretches m) (x.article, i) × Carries i x) m.sections (λ s h.
       All-weaker (LawfulAction kind s) (λ x. (i : Interval) × Has (stretches m) (x.article, i) × Carries i x) (λ x k.
@@ -112,13 +112,13 @@ module _ (kind : Meaning) (setup : Setup) (m : Message) (l : LawfulMessage kind 
       let on_it : Has (stretches m) (s.article, i) = has_joined (λ s. map (λ i. (s.article, i)) s.intervals) m.sections s (s.article, i) h (has_map (λ i. (s.article, i)) s.intervals i k.carried.1) in
       (i, subst (λ (a : ℕ). Has (stretches m) (a, i)) (sym k.on_article) on_it, k.carried.2)) s.actions (lawful_section_lem s h).actions)
 
-sections_ranked : (kind : Meaning) (setup : Setup) (ss : List Section) → All (LawfulSection kind setup) ss → Rising (map (λ s. s.article) ss) → AllRanked (flat_map (λ s. s.actions) ss)
+sections_ranked : (kind : Meaning) (setup : Setup) (ss : List Section) → AllByRecursion (LawfulSection kind setup) ss → Rising (map (λ s. s.article) ss) → AllRanked (flat_map (λ s. s.actions) ss)
 sections_ranked kind setup [] lawful rising = tt
 sections_ranked kind setup (s ∷ ss) lawful rising =
-    ranked_append s.actions (flat_map (λ s. s.actions) ss) (ascending_ranked s.actions lawful.0.ordered) (sections_ranked kind setup ss lawful.1 rising.1) (All-weaker (LawfulAction kind s) (λ x. All (Ranked x) (flat_map (λ s. s.actions) ss)) (λ x here.
+    ranked_append s.actions (flat_map (λ s. s.actions) ss) (ascending_ranked s.actions lawful.0.ordered) (sections_ranked kind setup ss lawful.1 rising.1) (All-weaker (LawfulAction kind s) (λ x. AllByRecursion (Ranked x) (flat_map (λ s. s.actions) ss)) (λ x here.
     All-weaker (λ y. s.article < y.article) (Ranked x) (λ y there. ranked_unless x y (λ _ _ same. omega (arith, same, here.on_article))) (flat_map (λ s. s.actions) ss) later) s.actions lawful.0.actions)
   where
-    later : All (λ y. s.article < y.article) (flat_map (λ s. s.actions) ss)
+    later : AllByRecursion (λ y. s.article < y.article) (flat_map (λ s. s.actions) ss)
     later =
         all_joined (λ s. s.actions) (λ y. s.article < y.article) ss (λ r h.
         let after : s.article < r.article = all-has (λ r. s.article < r.article) ss r (all_from_map (λ a. s.article < a) (λ r. r.article) ss rising.0) h in

@@ -1,6 +1,6 @@
 -- A section's intervals: the test of each after those before it, and what all of them keep. Assumes nothing.
 use Rattle.std.proofs.Common.{◌≡◌, ℕ, zero, suc, ◌+◌, ◌<◌, ◌≤◌, true, cond, ◌&&◌, ltb, leb, ◌⊎◌, List, [], ◌∷◌, map, length, get_or, set, fold, sym, refl, ap, ◌∙◌, subst, inl, inr, arith}
-use Rattle.std.specs.List.{ContainsAt as Has, AllByRecursion as All}
+use Rattle.std.specs.List.{ContainsAt as Has, AllByRecursion}
 use Rattle.std.proofs.ByRecursion.{All-map, All-weaker}
 use Rattle.std.proofs.lemmas.List.{get_or-set_other, get_or-set_same, length-set, set_past}
 use Rattle.std.proofs.lemmas.Bool.{and_from, and_parts, cases_eq, cases_lt, cond-true, le-leb, leb-true, lt-ltb, ltb-true}
@@ -40,7 +40,7 @@ module _ (kind : Meaning) (setup : Setup) where
 
 -- THE TESTS
 
-pub all_from_map : {X Y : Type 0} (P : X → Type 0) (f : Y → X) (ys : List Y) → All P (map f ys) → All (λ y. P (f y)) ys
+pub all_from_map : {X Y : Type 0} (P : X → Type 0) (f : Y → X) (ys : List Y) → AllByRecursion P (map f ys) → AllByRecursion (λ y. P (f y)) ys
 all_from_map P f [] h = tt
 all_from_map P f (y ∷ ys) h = (h.0, all_from_map P f ys h.1)
 
@@ -57,7 +57,7 @@ module _ (setup : Setup) where
     interval_passes l h = and_from _ _ (and_from _ _ (le-leb _ _ h) (lt-ltb _ _ l.of_group)) (and_from _ _ (le-leb _ _ l.forward) (le-leb _ _ l.in_time))
 
   -- the tests along the way say that all are lawful, their sites rising and none below the least
-  pub intervals_told : (p : Progress) (is : List Interval) → Run (lawful_interval setup) after_interval p is → All (LawfulInterval setup) is × All (λ i. p.next_site ≤ i.site) is × Rising (map (λ i. i.site) is)
+  pub intervals_told : (p : Progress) (is : List Interval) → Run (lawful_interval setup) after_interval p is → AllByRecursion (LawfulInterval setup) is × AllByRecursion (λ i. p.next_site ≤ i.site) is × Rising (map (λ i. i.site) is)
   intervals_told p [] run = (tt, tt, tt)
   intervals_told p (i ∷ is) run =
       let here = interval_told p i run.0 in
@@ -68,7 +68,7 @@ module _ (setup : Setup) where
         (All-map (λ y. i.site < y) (λ j. j.site) is above, more.2),
       )
 
-  pub intervals_pass : (p : Progress) (is : List Interval) → All (LawfulInterval setup) is → All (λ i. p.next_site ≤ i.site) is → Rising (map (λ i. i.site) is) → Run (lawful_interval setup) after_interval p is
+  pub intervals_pass : (p : Progress) (is : List Interval) → AllByRecursion (LawfulInterval setup) is → AllByRecursion (λ i. p.next_site ≤ i.site) is → Rising (map (λ i. i.site) is) → Run (lawful_interval setup) after_interval p is
   intervals_pass p [] lawful least up = tt
   intervals_pass p (i ∷ is) lawful least up =
       let above = all_from_map (λ y. i.site < y) (λ j. j.site) is up.0 in
@@ -108,14 +108,14 @@ module _ (c time : ℕ) where
       later (inr k) = placed (cases_eq c i.site) (cases_lt i.site (length p.spans)) k
 
 -- intervals of later sites leave a site's span
-pub span_kept : (p : Progress) (is : List Interval) (c : ℕ) → All (λ i. c < i.site) is → get_or (fold after_interval p is).spans c no_span ≡ get_or p.spans c no_span
+pub span_kept : (p : Progress) (is : List Interval) (c : ℕ) → AllByRecursion (λ i. c < i.site) is → get_or (fold after_interval p is).spans c no_span ≡ get_or p.spans c no_span
 span_kept p [] c h = refl
 span_kept p (i ∷ is) c h = span_kept (after_interval p i) is c h.1 ∙ get_or-set_other p.spans i.site c _ no_span (omega (arith, h.0))
 
 -- after intervals of rising sites, a site's span is that of its interval
-pub span_set : (p : Progress) (is : List Interval) (i : Interval) (k : ℕ) → k < length is → get_or is k i ≡ i → Rising (map (λ i. i.site) is) → All (λ i. i.site < length p.spans) is → get_or (fold after_interval p is).spans i.site no_span ≡ span_of i
+pub span_set : (p : Progress) (is : List Interval) (i : Interval) (k : ℕ) → k < length is → get_or is k i ≡ i → Rising (map (λ i. i.site) is) → AllByRecursion (λ i. i.site < length p.spans) is → get_or (fold after_interval p is).spans i.site no_span ≡ span_of i
 span_set p [] i k in' at up few = absurd (omega arith)
 span_set p (j ∷ is) i zero in' at up few =
     subst (λ x. get_or (fold after_interval (after_interval p j) is).spans x.site no_span ≡ span_of x) at (span_kept (after_interval p j) is j.site (all_from_map (λ y. j.site < y) (λ x. x.site) is up.0) ∙ get_or-set_same p.spans j.site _ no_span few.0)
 span_set p (j ∷ is) i (suc k) in' at up few =
-    span_set (after_interval p j) is i k (omega arith) at up.1 (subst (λ n. All (λ x. x.site < n) is) (sym (length-set p.spans j.site _)) few.1)
+    span_set (after_interval p j) is i k (omega arith) at up.1 (subst (λ n. AllByRecursion (λ x. x.site < n) is) (sym (length-set p.spans j.site _)) few.1)

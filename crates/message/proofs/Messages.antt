@@ -1,6 +1,6 @@
 -- Whole messages: their records are read to the end just where they are lawful. Assumes nothing.
 use Rattle.std.proofs.Common.{◌≡◌, ℕ, zero, suc, ◌<◌, ◌≤◌, true, cond, ◌&&◌, eqb, ltb, leb, List, [], ◌∷◌, ◌++◌, map, length, Some, fold, sum_by, count_by, sym, refl, ap, ◌∙◌, arith}
-use Rattle.std.specs.List.{flat_map, AllByRecursion as All}
+use Rattle.std.specs.List.{flat_map, AllByRecursion}
 use Rattle.std.proofs.ByRecursion.{All-map, All-weaker}
 use Rattle.std.proofs.lemmas.List.Sums.{sum_by-append, sum_by-cons}
 use Rattle.std.proofs.lemmas.Bool.{and_from, and_parts, cond-true, eq-eqb, eqb-true, false≢true, le-leb, leb-true, lt-ltb, ltb-true}
@@ -36,12 +36,12 @@ module _ (kind : Meaning) (setup : Setup) where
     pub sections : List Section
     pub parts : rs ≡ flat_map section_records sections
     pub many : length sections ≡ n
-    pub lawful : All (LawfulSection kind setup) sections
-    pub least : All (λ s. p.next_article ≤ s.article) sections
+    pub lawful : AllByRecursion (LawfulSection kind setup) sections
+    pub least : AllByRecursion (λ s. p.next_article ≤ s.article) sections
     pub rising : Rising (map (λ s. s.article) sections)
 
   -- records that lead to the end are the sections to come
-  pub read_sections : (n : ℕ) (p e : Progress) (rs : List Record) → p.sections ≡ n → p.due ≡ due_after 0 0 p.sections → All Fitting rs → fold (onward kind setup) (Some p) rs ≡ Some e → e.due ≡ Due.End → ReadSections n p rs
+  pub read_sections : (n : ℕ) (p e : Progress) (rs : List Record) → p.sections ≡ n → p.due ≡ due_after 0 0 p.sections → AllByRecursion Fitting rs → fold (onward kind setup) (Some p) rs ≡ Some e → e.due ≡ Due.End → ReadSections n p rs
   read_sections zero p e [] is so fits h end = record { sections = []; parts = refl; many = refl; lawful = tt; least = tt; rising = tt }
   read_sections zero p e (r ∷ rs) is so fits h end =
       let f = first_on kind setup p e r rs h in
@@ -65,7 +65,7 @@ module _ (kind : Meaning) (setup : Setup) where
       }
 
   -- the records of lawful sections lead to the end
-  pub sections_read : (ss : List Section) (p : Progress) → p.sections ≡ length ss → p.due ≡ due_after 0 0 p.sections → All (LawfulSection kind setup) ss → All (λ s. p.next_article ≤ s.article) ss → Rising (map (λ s. s.article) ss) → (e : Progress) × (fold (onward kind setup) (Some p) (flat_map section_records ss) ≡ Some e) × (e.due ≡ Due.End)
+  pub sections_read : (ss : List Section) (p : Progress) → p.sections ≡ length ss → p.due ≡ due_after 0 0 p.sections → AllByRecursion (LawfulSection kind setup) ss → AllByRecursion (λ s. p.next_article ≤ s.article) ss → Rising (map (λ s. s.article) ss) → (e : Progress) × (fold (onward kind setup) (Some p) (flat_map section_records ss) ≡ Some e) × (e.due ≡ Due.End)
   sections_read [] p is so lawful least up = (p, refl, so ∙ ap (due_after 0 0) is)
   sections_read (s ∷ ss) p is so lawful least up =
       let q = after_all p s in
@@ -99,7 +99,7 @@ module _ (kind : Meaning) (setup : Setup) where
       (and_from _ _ (eq-eqb _ _ t.of_group) (eq-eqb _ _ t.of_kind), and_from _ _ (and_from _ _ (le-leb _ _ t.some) (le-leb _ _ t.few)) (lt-ltb _ _ t.sent))
 
   -- records that are read to the end are those of a lawful message
-  pub reads_lawful : (rs : List Record) (e : Progress) → reading kind setup rs ≡ Some e → All Fitting rs → e.due ≡ Due.End → (m : Message) × LawfulMessage kind setup m × (records m ≡ rs)
+  pub reads_lawful : (rs : List Record) (e : Progress) → reading kind setup rs ≡ Some e → AllByRecursion Fitting rs → e.due ≡ Due.End → (m : Message) × LawfulMessage kind setup m × (records m ≡ rs)
   reads_lawful [] e h fits end = absurd (let z : Due.Header ≡ Due.End = ap (λ q. q.due) (some_same start e h) ∙ end in let n : ◌≡◌ {A = ℕ} 0 1 = cc in omega arith)
   reads_lawful (r ∷ rs) e read fits end =
       let f = first_on kind setup start e r rs read in

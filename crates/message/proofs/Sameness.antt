@@ -1,6 +1,6 @@
 -- A message is known by its records, and those of a lawful one fit their bytes. Assumes nothing.
 use Rattle.std.proofs.Common.{◌≡◌, ℕ, ◌≤◌, List, [], ◌∷◌, ◌++◌, map, length, sym, refl, ap, ◌∙◌, arith}
-use Rattle.std.specs.List.{flat_map, AllByRecursion as All}
+use Rattle.std.specs.List.{flat_map, AllByRecursion}
 use Rattle.std.proofs.ByRecursion.{All-append, all-has, All-map, All-weaker}
 use Rattle.std.proofs.lemmas.List.{append_assoc, length-map}
 use Rattle.action.specs.declared.orders.Action.{Action}
@@ -90,18 +90,18 @@ module _ (kind : Meaning) (setup : Setup) where
         amount = a.four_bytes;
       }
 
-  section_fits : (s : Section) → LawfulSection kind setup s → All Fitting (section_records s)
+  section_fits : (s : Section) → LawfulSection kind setup s → AllByRecursion Fitting (section_records s)
   section_fits s l =
       let head : SectionFits (head_of s) = record { article = omega (arith, l.listed, setup.few_articles); intervals = omega (arith, l.few, setup.few_sites); actions = l.counted } in
       let is = All-map Fitting RecordKinds.Interval s.intervals (All-weaker (LawfulInterval setup) IntervalFits interval_fits s.intervals l.intervals) in
       let xs = All-map Fitting RecordKinds.Action s.actions (All-weaker (LawfulAction kind s) ActionFits (action_fits s l) s.actions l.actions) in
       (head, All-append Fitting (map RecordKinds.Interval s.intervals) (map RecordKinds.Action s.actions) is xs)
 
-  sections_fit : (ss : List Section) → All (LawfulSection kind setup) ss → All Fitting (flat_map section_records ss)
+  sections_fit : (ss : List Section) → AllByRecursion (LawfulSection kind setup) ss → AllByRecursion Fitting (flat_map section_records ss)
   sections_fit [] l = tt
   sections_fit (s ∷ ss) l = All-append Fitting (section_records s) (flat_map section_records ss) (section_fits s l.0) (sections_fit ss l.1)
 
-  pub lawful_fits : kind.number ≤ 255 → (m : Message) → LawfulMessage kind setup m → All Fitting (records m)
+  pub lawful_fits : kind.number ≤ 255 → (m : Message) → LawfulMessage kind setup m → AllByRecursion Fitting (records m)
   lawful_fits small m l =
       let head : HeaderFits (header_of m) = record { group = omega (arith, l.of_group, setup.group_fits); kind = omega (arith, l.of_kind); sender = omega (arith, l.sent, setup.few_sites); sections = omega (arith, l.few) } in
       (head, sections_fit m.sections l.sections)

@@ -1,6 +1,6 @@
 -- One section: its records lead on just where it is lawful. Assumes nothing.
 use Rattle.std.proofs.Common.{◌≡◌, ℕ, ◌+◌, ◌-◌, ◌<◌, ◌≤◌, true, cond, ◌&&◌, ltb, leb, ◌⊎◌, List, [], ◌∷◌, ◌++◌, map, length, get_or, Some, fold, sym, refl, ap, ◌∙◌, subst, inl, inr, arith}
-use Rattle.std.specs.List.{AllByRecursion as All}
+use Rattle.std.specs.List.{AllByRecursion}
 use Rattle.std.proofs.ByRecursion.{All-weaker}
 use Rattle.std.proofs.lemmas.List.{append_assoc, get_or_past, get_or-replicate}
 use Rattle.std.proofs.lemmas.Bool.{and_from, and_parts, cases_lt, cond-true, le-leb, leb-true, lt-ltb, ltb-true}
@@ -29,11 +29,11 @@ use Rattle.message.proofs.Stretches.{Run, folded_append, folded_keeps, left_afte
 
 -- ALL OF A LIST
 
-pub all_parts : {X : Type 0} (P : X → Type 0) (xs ys : List X) → All P (xs ++ ys) → All P xs × All P ys
+pub all_parts : {X : Type 0} (P : X → Type 0) (xs ys : List X) → AllByRecursion P (xs ++ ys) → AllByRecursion P xs × AllByRecursion P ys
 all_parts P [] ys h = (tt, h)
 all_parts P (x ∷ xs) ys h = let k = all_parts P xs ys h.1 in ((h.0, k.0), k.1)
 
-pub all_both : {X : Type 0} (P Q R : X → Type 0) → ((x : X) → P x → Q x → R x) → (xs : List X) → All P xs → All Q xs → All R xs
+pub all_both : {X : Type 0} (P Q R : X → Type 0) → ((x : X) → P x → Q x → R x) → (xs : List X) → AllByRecursion P xs → AllByRecursion Q xs → AllByRecursion R xs
 all_both P Q R f [] h k = tt
 all_both P Q R f (x ∷ xs) h k = (f x h.0 k.0, all_both P Q R f xs h.1 k.1)
 
@@ -140,7 +140,7 @@ module _ (kind : Meaning) (setup : Setup) (p : Progress) (s : Section) where
           ap (λ t. carries t x.time) (ap (λ n. get_or (after_intervals p (head_of s) s.intervals).spans n no_span) (sym same) ∙ is) ∙ and_from _ _ (lt-ltb _ _ after) (le-leb _ _ upto)
 
   -- the tests along a section's records say that it is lawful
-  pub section_lawful : lawful_section setup p (head_of s) ≡ true → Run (lawful_interval setup) after_interval (after_section p (head_of s)) s.intervals → Run (lawful_action kind) after_action (after_intervals p (head_of s) s.intervals) s.actions → SectionFits (head_of s) → All ActionFits s.actions → LawfulSection kind setup s
+  pub section_lawful : lawful_section setup p (head_of s) ≡ true → Run (lawful_interval setup) after_interval (after_section p (head_of s)) s.intervals → Run (lawful_action kind) after_action (after_intervals p (head_of s) s.intervals) s.actions → SectionFits (head_of s) → AllByRecursion ActionFits s.actions → LawfulSection kind setup s
   section_lawful h intervals actions fits each =
       let told = head_told setup p (head_of s) h in
       let is = intervals_told setup (after_section p (head_of s)) s.intervals intervals in
@@ -152,7 +152,7 @@ module _ (kind : Meaning) (setup : Setup) (p : Progress) (s : Section) where
         few = told.few;
         intervals = is.0;
         rising = is.2;
-        actions = all_both _ _ _ fair_lawful s.actions (subst (λ (n : ℕ). All (Fair kind n (after_intervals p (head_of s) s.intervals).spans) s.actions) article xs.0) each;
+        actions = all_both _ _ _ fair_lawful s.actions (subst (λ (n : ℕ). AllByRecursion (Fair kind n (after_intervals p (head_of s) s.intervals).spans) s.actions) article xs.0) each;
         ordered = xs.2;
         counted = fits.actions;
       }
@@ -165,11 +165,11 @@ module _ (kind : Meaning) (setup : Setup) (p : Progress) (is : p.due ≡ Due.Sec
     pub parts : rs ≡ section_records section ++ rest
     pub least : p.next_article ≤ section.article
     pub lawful : LawfulSection kind setup section
-    pub fitting : All Fitting rest
+    pub fitting : AllByRecursion Fitting rest
     pub onto : fold (onward kind setup) (Some (after_all p section)) rest ≡ Some e
 
   -- records that lead to the end begin with a section where one is due
-  pub read_section : (e : Progress) (rs : List Record) → All Fitting rs → fold (onward kind setup) (Some p) rs ≡ Some e → e.due ≡ Due.End → ReadSection e rs
+  pub read_section : (e : Progress) (rs : List Record) → AllByRecursion Fitting rs → fold (onward kind setup) (Some p) rs ≡ Some e → e.due ≡ Due.End → ReadSection e rs
   read_section e [] fits h end = absurd (let z : Due.Section ≡ Due.End = sym is ∙ ap (λ q. q.due) (some_same p e h) ∙ end in let n : ◌≡◌ {A = ℕ} 0 1 = cc in omega arith)
   read_section e (r ∷ rs) fits h end =
       let f = first_on kind setup p e r rs h in
@@ -181,7 +181,7 @@ module _ (kind : Meaning) (setup : Setup) (p : Progress) (is : p.due ≡ Due.Sec
       let b = split kind setup _ _ _ _ _ (actions_stretch kind setup) head.actions middle e a.rest (actions_left kind setup p head a.items) (actions_ready kind setup p head a.items a.many told.some) a.onto end in
       let s : Section = record { article = head.article; intervals = a.items; actions = b.items } in
       let same : head_of s ≡ head = λ i. record { article = head.article; intervals = a.many i; actions = b.many i } in
-      let more = all_parts Fitting (map RecordKinds.Action b.items) b.rest (subst (All Fitting) b.parts (all_parts Fitting (map RecordKinds.Interval a.items) a.rest (subst (All Fitting) a.parts fits.1)).1) in
+      let more = all_parts Fitting (map RecordKinds.Action b.items) b.rest (subst (AllByRecursion Fitting) b.parts (all_parts Fitting (map RecordKinds.Interval a.items) a.rest (subst (AllByRecursion Fitting) a.parts fits.1)).1) in
       record {
         section = s;
         rest = b.rest;
@@ -204,5 +204,5 @@ module _ (kind : Meaning) (setup : Setup) (p : Progress) (is : p.due ≡ Due.Sec
       let last = folded_keeps (λ q. q.last) after_interval (λ _ _. refl) (after_section p head) s.intervals in
       let fair = All-weaker (LawfulAction kind s) (Fair kind s.article middle.spans) (lawful_fair kind setup p s l) s.actions l.actions in
       let leads = leads_later 0 no_action s.actions (omega arith) (All-weaker (LawfulAction kind s) (λ x. 0 < x.time) (λ x a. omega (arith, a.begun, a.in_turn)) s.actions l.actions) in
-      let actions = actions_pass kind middle s.actions (subst (λ (n : ℕ). All (Fair kind n middle.spans) s.actions) (sym article) fair) (subst (λ a. Leads a s.actions) (sym last) leads) l.ordered in
+      let actions = actions_pass kind middle s.actions (subst (λ (n : ℕ). AllByRecursion (Fair kind n middle.spans) s.actions) (sym article) fair) (subst (λ a. Leads a s.actions) (sym last) leads) l.ordered in
       ap (λ o. fold (onward kind setup) o (map RecordKinds.Interval s.intervals ++ map RecordKinds.Action s.actions)) first ∙ folded_append (onward kind setup) (Some (after_section p head)) (map RecordKinds.Interval s.intervals) (map RecordKinds.Action s.actions) ∙ ap (λ o. fold (onward kind setup) o (map RecordKinds.Action s.actions)) (through kind setup _ _ _ _ _ (intervals_stretch kind setup) (after_section p head) s.intervals refl (intervals_ready kind setup p head l.some) intervals) ∙ through kind setup _ _ _ _ _ (actions_stretch kind setup) middle s.actions (actions_left kind setup p head s.intervals) (actions_ready kind setup p head s.intervals refl l.some) actions

@@ -1,6 +1,6 @@
 -- The records that bytes hold, one by one. Assumes nothing.
 use Rattle.std.proofs.Common.{◌≡◌, ℕ, zero, suc, ◌+◌, ◌≤◌, Bool, cond, List, [], ◌∷◌, ◌++◌, length, drop, Some, None, Option, sym, refl, ap, ◌∙◌, arith}
-use Rattle.std.specs.List.{flat_map, AllByRecursion as All}
+use Rattle.std.specs.List.{flat_map, AllByRecursion}
 use Rattle.std.proofs.lemmas.List.{drop_at, drop-drop, length-drop, nil_from_length}
 use Rattle.action.specs.declared.setups.Setup.{Setup}
 use Rattle.kind.specs.Meaning.{Meaning}
@@ -103,7 +103,7 @@ record_first (RecordKinds.Section s) more fits = ap whole (decoded_format more D
 record_first (RecordKinds.Interval i) more fits = ap whole (decoded_format more Due.Interval (RecordKinds.Interval i) refl fits)
 record_first (RecordKinds.Action x) more fits = ap whole (decoded_format more Due.Action (RecordKinds.Action x) refl fits)
 
-pub records_joined : (rs : List Record) → All Fitting rs → records_in (flat_map record_bytes rs) ≡ rs
+pub records_joined : (rs : List Record) → AllByRecursion Fitting rs → records_in (flat_map record_bytes rs) ≡ rs
 records_joined [] fits = refl
 records_joined (r ∷ rs) fits =
     records_next (record_bytes r ++ flat_map record_bytes rs) r (record_first r (flat_map record_bytes rs) fits.0) ∙ ap (λ l. r ∷ l) (ap records_in (drop_at (record_bytes r) (flat_map record_bytes rs) (length (record_bytes r)) refl) ∙ records_joined rs fits.1)

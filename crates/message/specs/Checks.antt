@@ -1,6 +1,6 @@
 -- What the check of a message answers, in words of the format. Assumes nothing.
 use Rattle.std.specs.Prelude.{◌≡◌, ℕ, ◌≤◌, true, List, ◌++◌, length, Some, None, Ok, Err, Result}
-use Rattle.std.specs.List.{flat_map, AllByRecursion as All}
+use Rattle.std.specs.List.{flat_map, AllByRecursion}
 use Rattle.action.specs.declared.refusals.Refusal.{Refusal}
 use Rattle.action.specs.declared.setups.Setup.{Setup}
 use Rattle.action.specs.Lawful.{by_reader}
@@ -37,7 +37,7 @@ Unique kind setup bytes = (m n : Message) → LawfulMessage kind setup m → Law
 -- the bytes begin with those of these records, each due and lawful after those before it
 pub record Beginning (kind : Meaning) (setup : Setup) (bytes : List ℕ) (rs : List Record) (p : Progress) (rest : List ℕ) : Type 0 where
   pub lawful : reading kind setup rs ≡ Some p
-  pub fitting : All Fitting rs
+  pub fitting : AllByRecursion Fitting rs
   pub front : bytes ≡ flat_map record_bytes rs ++ rest
 
 abbrev pub StartsWith : List ℕ → Record → Type 0

@@ -1,7 +1,7 @@
 -- Which messages a table of a set-up and a kind can read. Assumes nothing.
 use Rattle.std.specs.Prelude.{◌≡◌, ℕ, ◌<◌, ◌≤◌, true, List, [], ◌∷◌, map, length, sum_by, FitsSigned}
 use Rattle.std.specs.Int.{w32}
-use Rattle.std.specs.List.{ContainsAt as Has, AllByRecursion as All}
+use Rattle.std.specs.List.{ContainsAt as Has, AllByRecursion}
 use Rattle.action.specs.declared.orders.Action.{Action}
 use Rattle.action.specs.declared.setups.Setup.{Setup}
 use Rattle.action.specs.Order.{Ascending}
@@ -13,7 +13,7 @@ use Rattle.message.specs.Format.{Message, Section}
 -- strictly ascending numbers
 abbrev pub Rising : List ℕ → Type 0
 Rising [] = Unit {0}
-Rising (x ∷ xs) = All (λ y. x < y) xs × Rising xs
+Rising (x ∷ xs) = AllByRecursion (λ y. x < y) xs × Rising xs
 
 pub record LawfulInterval (setup : Setup) (i : Interval) : Type 0 where
   pub of_group : i.site < setup.sites
@@ -38,9 +38,9 @@ pub record LawfulSection (kind : Meaning) (setup : Setup) (s : Section) : Type 0
   pub listed : s.article < setup.articles
   pub some : 1 ≤ length s.intervals
   pub few : length s.intervals ≤ setup.sites
-  pub intervals : All (LawfulInterval setup) s.intervals
+  pub intervals : AllByRecursion (LawfulInterval setup) s.intervals
   pub rising : Rising (map (λ i. i.site) s.intervals)
-  pub actions : All (LawfulAction kind s) s.actions
+  pub actions : AllByRecursion (LawfulAction kind s) s.actions
   pub ordered : Ascending s.actions
   -- their number takes two bytes
   pub counted : length s.actions < 65536
@@ -51,7 +51,7 @@ pub record LawfulMessage (kind : Meaning) (setup : Setup) (m : Message) : Type 0
   pub sent : m.sender < setup.sites
   pub some : 1 ≤ length m.sections
   pub few : length m.sections ≤ 16
-  pub sections : All (LawfulSection kind setup) m.sections
+  pub sections : AllByRecursion (LawfulSection kind setup) m.sections
   pub rising : Rising (map (λ s. s.article) m.sections)
 
 -- how many actions a message carries

@@ -1,6 +1,6 @@
 -- How bytes are read, record by record. Assumes nothing.
 use Rattle.std.specs.Prelude.{◌≡◌, ℕ, ◌+◌, Bool, true, false, cond, List, ◌++◌, length, drop, Some, None, Ok, Err, fold, count_by, Option, Result}
-use Rattle.std.specs.List.{flat_map, AllByRecursion as All}
+use Rattle.std.specs.List.{flat_map, AllByRecursion}
 use Rattle.action.specs.declared.refusals.Refusal.{Refusal}
 use Rattle.action.specs.declared.setups.Setup.{Setup}
 use Rattle.action.specs.Lawful.{by_reader}
@@ -107,7 +107,7 @@ is_action (RecordKinds.Action _) = true
 pub record Begun (kind : Meaning) (setup : Setup) (bytes : List ℕ) (at : ℕ) (p : Progress) : Type 0 where
   pub records : List Record
   pub lawful : reading kind setup records ≡ Some p
-  pub fitting : All Fitting records
+  pub fitting : AllByRecursion Fitting records
   pub front : bytes ≡ flat_map record_bytes records ++ drop at bytes
   pub far : at ≡ length (flat_map record_bytes records)
 

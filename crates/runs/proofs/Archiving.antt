@@ -1,7 +1,7 @@
 -- A line that archives an article: what is archived and what the history holds are together the same.
 -- Assumes nothing.
 use Rattle.std.proofs.Common.{◌≡◌, ℕ, ◌<◌, ◌≤◌, true, eqb, leb, List, ◌∷◌, ◌++◌, ℤ, Ok, Err, Result, sym, refl, ap, ◌∙◌, subst, inl, ⊎_elim, append_assoc, arith, w64, SFits}
-use Rattle.std.specs.List.{ContainsAt as Has, AllByRecursion as All}
+use Rattle.std.specs.List.{ContainsAt as Has, AllByRecursion}
 use Rattle.std.proofs.ByRecursion.{All-append, All-weaker, kept_by_passes}
 use Rattle.std.proofs.lemmas.Bool.{and_parts, cases_eq, cond-false, cond-true, eq-eqb, leb-true, ne_eqb}
 use Rattle.action.specs.declared.orders.Action.{Action}
@@ -38,10 +38,10 @@ module _ (kind : Meaning) (step_fits : (f : ℤ) (o : ℕ) (a : ℤ) → SFits w
     abbrev Everywhere : View → ℕ → Action → Type 0
     Everywhere u c x = (z q : ℕ) → z < page.sites → q < page.sites → x.time ≤ entry u c z q
 
-    still_everywhere : (c : ℕ) (xs : List Action) → All (Everywhere v c) xs → All (Everywhere w c) xs
+    still_everywhere : (c : ℕ) (xs : List Action) → AllByRecursion (Everywhere v c) xs → AllByRecursion (Everywhere w c) xs
     still_everywhere c xs h = All-weaker (Everywhere v c) (Everywhere w c) (λ x k z q zl ql. omega (arith, k z q zl ql, same_entry c z q)) xs h
 
-    olds_everywhere : All (Everywhere v a) (olds v a)
+    olds_everywhere : AllByRecursion (Everywhere v a) (olds v a)
     olds_everywhere =
         All-weaker (λ x. is_old v a x ≡ true) (Everywhere v a) (λ x h z q zl ql.
         let sites = sites_are kind page b s of_group v site in
@@ -52,7 +52,7 @@ module _ (kind : Meaning) (step_fits : (f : ℤ) (o : ℕ) (a : ℤ) → SFits w
       new_row = row_each (archived_row kind v a) v.rows c (omega (arith, site.sound.each_article, few_articles kind page b s of_group v site))
 
       -- the same actions, of which the first are archived
-      regathered : (xs : List Action) → (row w c).base ≡ working kind.steps kind.starts xs → xs ++ on c w.history ≡ g.archived ++ on c v.history → All (Everywhere w c) xs → Gathered kind page b s w c
+      regathered : (xs : List Action) → (row w c).base ≡ working kind.steps kind.starts xs → xs ++ on c w.history ≡ g.archived ++ on c v.history → AllByRecursion (Everywhere w c) xs → Gathered kind page b s w c
       regathered xs based together everywhere = record {
         archived = xs;
         based = based;
@@ -74,7 +74,7 @@ module _ (kind : Meaning) (step_fits : (f : ℤ) (o : ℕ) (a : ℤ) → SFits w
           regathered (g.archived ++ olds v a)
           (ap (λ (r : Row). r.base) new_row ∙ cond-true (eqb c a) _ _ (eq-eqb c a same) ∙ ap (λ f. working kind.steps f (olds v a)) g.based ∙ sym (working_append kind.steps kind.starts g.archived (olds v a)))
           (append_assoc g.archived (olds v a) (on c w.history) ∙ ap (λ l. g.archived ++ l) parts)
-          (still_everywhere c (g.archived ++ olds v a) (All-append (Everywhere v c) g.archived (olds v a) g.everywhere (subst (λ (n : ℕ). All (Everywhere v n) (olds v a)) (sym same) olds_everywhere)))
+          (still_everywhere c (g.archived ++ olds v a) (All-append (Everywhere v c) g.archived (olds v a) g.everywhere (subst (λ (n : ℕ). AllByRecursion (Everywhere v n) (olds v a)) (sym same) olds_everywhere)))
         where
           parts : olds v a ++ on c w.history ≡ on c v.history
           parts = subst (λ (n : ℕ). olds v a ++ on n w.history ≡ on n v.history) (sym same) (sym (archived_parts v a site.sound.ordered))

@@ -1,6 +1,6 @@
 -- One line more: what is left to show of its site, once the book is seen to grow. Assumes nothing.
 use Rattle.std.proofs.Common.{◌≡◌, ℕ, ◌<◌, ◌≤◌, ◌⊎◌, List, ◌∷◌, ◌++◌, map, Ok, Err, sym, ap, ◌∙◌, subst, inl, inr, ⊎_elim, arith}
-use Rattle.std.specs.List.{range_with_len, ContainsAt as Has, AllByRecursion as All}
+use Rattle.std.specs.List.{range_with_len, ContainsAt as Has, AllByRecursion}
 use Rattle.std.proofs.ByRecursion.{All-append, all-has, All-weaker, has_append_left}
 use Rattle.std.proofs.lemmas.Bool.{cases_eq}
 use Rattle.action.specs.declared.orders.Action.{Action}
@@ -30,7 +30,7 @@ pub record New (page : Page) (s : ℕ) (b after : Book) (x : Action) : Type 0 wh
 pub record Grown (page : Page) (s : ℕ) (b after : Book) : Type 0 where
   pub new : List Action
   pub adds : after.committed ≡ b.committed ++ new
-  pub each : All (New page s b after) new
+  pub each : AllByRecursion (New page s b after) new
   pub apart : Distinct new
   pub raised : (a q : ℕ) → b.reach s a q ≤ after.reach s a q
   pub others : (z : ℕ) → (z ≡ s → ⊥) → after.reach z ≡ b.reach z
@@ -81,8 +81,8 @@ module _ (kind : Meaning) (page : Page) (s : ℕ) (of_group : s < page.sites) (b
 
   pub ledger_after : Ledger page after
   ledger_after = record {
-    distinct = subst Distinct (sym g.adds) (distinct_append b.committed g.new l.distinct g.apart (All-weaker (Recorded page b) (λ x. All (Apart x) g.new) (λ x old. All-weaker (New page s b after) (Apart x) (λ y new. all_apart x y old new) g.new g.each) b.committed l.each));
-    each = subst (All (Recorded page after)) (sym g.adds) (All-append (Recorded page after) b.committed g.new (All-weaker (Recorded page b) (Recorded page after) still_recorded b.committed l.each) (All-weaker (New page s b after) (Recorded page after) newly_recorded g.new g.each));
+    distinct = subst Distinct (sym g.adds) (distinct_append b.committed g.new l.distinct g.apart (All-weaker (Recorded page b) (λ x. AllByRecursion (Apart x) g.new) (λ x old. All-weaker (New page s b after) (Apart x) (λ y new. all_apart x y old new) g.new g.each) b.committed l.each));
+    each = subst (AllByRecursion (Recorded page after)) (sym g.adds) (All-append (Recorded page after) b.committed g.new (All-weaker (Recorded page b) (Recorded page after) still_recorded b.committed l.each) (All-weaker (New page s b after) (Recorded page after) newly_recorded g.new g.each));
     no_more = λ z a q zl al ql.
         ⊎_elim
         (λ same. subst (λ (n : ℕ). after.reach n a q ≤ after.reach q a q) (sym same) (g.no_more a q al ql))
@@ -127,7 +127,7 @@ module _ (kind : Meaning) (page : Page) (s : ℕ) (of_group : s < page.sites) (b
     abbrev Listed : ℕ × Interval → Type 0
     Listed h = (h.0 < page.articles) × (h.1.site < page.sites)
 
-    listed : All Listed (stretches m)
+    listed : AllByRecursion Listed (stretches m)
     listed =
         let setup = page.setup s in
         let of = page.of_page s of_group in

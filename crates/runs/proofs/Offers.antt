@@ -1,6 +1,6 @@
 -- The step of offer: what it writes is a true message. Assumes nothing.
 use Rattle.std.proofs.Common.{◌≡◌, ℕ, ◌<◌, ◌≤◌, true, eqb, ltb, List, [], ◌∷◌, map, take, Ok, Err, filter, Result, sym, refl, subst, inl, inr, ⊎_elim, arith}
-use Rattle.std.specs.List.{range_with_len, ContainsAt as Has, AllByRecursion as All}
+use Rattle.std.specs.List.{range_with_len, ContainsAt as Has, AllByRecursion}
 use Rattle.std.proofs.ByRecursion.{All-append, all-has, All-map, All-weaker, has_append_left, has_append_right}
 use Rattle.std.proofs.lemmas.Bool.{and_from, and_parts, eq-eqb, le-leb, lt-ltb, ltb-true}
 use Rattle.action.specs.declared.orders.Action.{Action}
@@ -32,7 +32,7 @@ module _ (kind : Meaning) (page : Page) (b : Book) (s : ℕ) (of_group : s < pag
   own = v.setup.own
 
   -- what holds of each interval of the offer
-  each_interval : (P : ℕ × Interval → Type 0) → ((q : ℕ) → q < page.sites → P (a, offer_interval v p a q)) → All P (stretches m)
+  each_interval : (P : ℕ × Interval → Type 0) → ((q : ℕ) → q < page.sites → P (a, offer_interval v p a q)) → AllByRecursion P (stretches m)
   each_interval P each =
       All-append P (map (λ i. (a, i)) (map (offer_interval v p a) (range_with_len 0 v.setup.sites))) []
       (All-map P (λ i. (a, i)) (map (offer_interval v p a) (range_with_len 0 v.setup.sites)) (All-map (λ i. P (a, i)) (offer_interval v p a) (range_with_len 0 v.setup.sites) (All-weaker (λ q. q < v.setup.sites) (λ q. P (a, offer_interval v p a q)) (λ q lt. each q (omega (arith, lt, sites_are kind page b s of_group v site))) (range_with_len 0 v.setup.sites) (below_counting v.setup.sites))))

@@ -1,6 +1,6 @@
 -- A message that a site has taken before changes nothing there. Assumes nothing.
 use Rattle.std.proofs.Common.{◌≡◌, ℕ, ◌<◌, ◌≤◌, max, Bool, true, false, cond, eqb, List, [], ◌∷◌, length, ℤ, Ok, Err, fold, filter, sym, refl, ap, ◌∙◌, subst, arith}
-use Rattle.std.specs.List.{ContainsAt as Has, AllByRecursion as All}
+use Rattle.std.specs.List.{ContainsAt as Has, AllByRecursion}
 use Rattle.std.proofs.ByRecursion.{all-has, All-weaker}
 use Rattle.std.proofs.lemmas.Bool.{eqb-true, le-ltb}
 use Rattle.action.specs.declared.orders.Action.{Action}
@@ -29,7 +29,7 @@ use Rattle.runs.proofs.Sites.{own_is}
 use Rattle.runs.proofs.Standing.{Absorbed, Credits, Standing}
 
 -- intervals that two rows of entries have reached raise neither
-told_again : (own sender : ℕ) (known : List (List ℕ)) (hs : List (ℕ × Interval)) → All (λ h. (h.1.to ≤ at known own h.1.site) × (h.1.to ≤ at known sender h.1.site)) hs → fold (raised_by own sender) known hs ≡ known
+told_again : (own sender : ℕ) (known : List (List ℕ)) (hs : List (ℕ × Interval)) → AllByRecursion (λ h. (h.1.to ≤ at known own h.1.site) × (h.1.to ≤ at known sender h.1.site)) hs → fold (raised_by own sender) known hs ≡ known
 told_again own sender known [] all = refl
 told_again own sender known (h ∷ hs) all =
     let first : raised known own h.1.site h.1.to ≡ known = raised_within known own h.1.site h.1.to all.0.0 in

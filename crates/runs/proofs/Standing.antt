@@ -1,6 +1,6 @@
 -- What holds after every line of a run. Assumes nothing.
 use Rattle.std.proofs.Common.{◌≡◌, ℕ, ◌<◌, ◌≤◌, ◌⊎◌, List, [], ◌++◌, Ok, Err}
-use Rattle.std.specs.List.{ContainsAt as Has, AllByRecursion as All}
+use Rattle.std.specs.List.{ContainsAt as Has, AllByRecursion}
 use Rattle.action.specs.declared.orders.Action.{Action}
 use Rattle.action.specs.Order.{Ascending, Distinct}
 use Rattle.kind.specs.Meaning.{Meaning}
@@ -29,7 +29,7 @@ pub record Recorded (page : Page) (b : Book) (x : Action) : Type 0 where
 -- the committed actions are apart, and no site has more of another's actions than the other
 pub record Ledger (page : Page) (b : Book) : Type 0 where
   pub distinct : Distinct b.committed
-  pub each : All (Recorded page b) b.committed
+  pub each : AllByRecursion (Recorded page b) b.committed
   pub no_more : (s a q : ℕ) → s < page.sites → a < page.articles → q < page.sites → b.reach s a q ≤ b.reach q a q
 
 -- ONE SITE
@@ -42,7 +42,7 @@ pub record Gathered (kind : Meaning) (page : Page) (b : Book) (s : ℕ) (v : Vie
   pub sure : (x : Action) → Has (archived ++ on a v.history) x → Reached b s a x
   pub whole : (x : Action) → Reached b s a x → Has (archived ++ on a v.history) x
   -- what was archived is known to be everywhere
-  pub everywhere : All (λ x. (z q : ℕ) → z < page.sites → q < page.sites → x.time ≤ entry v a z q) archived
+  pub everywhere : AllByRecursion (λ x. (z q : ℕ) → z < page.sites → q < page.sites → x.time ≤ entry v a z q) archived
 
 -- the site's table is sound, and says what the book says; it believes nothing that is not so
 pub record Site (kind : Meaning) (page : Page) (b : Book) (s : ℕ) (v : View) : Type 0 where
@@ -63,9 +63,9 @@ pub record Sent (kind : Meaning) (page : Page) (bytes : List ℕ) (m : Message) 
 
 -- its sender has what its intervals say, and it carries just the committed actions in them
 pub record Truthful (b : Book) (m : Message) : Type 0 where
-  pub sender_has : All (λ h. h.1.to ≤ b.reach m.sender h.0 h.1.site) (stretches m)
-  pub whole : All (λ h. (x : Action) → Has b.committed x → x.article ≡ h.0 → x.coordinator ≡ h.1.site → h.1.from < x.time → x.time ≤ h.1.to → Has (carried m) x) (stretches m)
-  pub sure : All (Has b.committed) (carried m)
+  pub sender_has : AllByRecursion (λ h. h.1.to ≤ b.reach m.sender h.0 h.1.site) (stretches m)
+  pub whole : AllByRecursion (λ h. (x : Action) → Has b.committed x → x.article ≡ h.0 → x.coordinator ≡ h.1.site → h.1.from < x.time → x.time ≤ h.1.to → Has (carried m) x) (stretches m)
+  pub sure : AllByRecursion (Has b.committed) (carried m)
 
 -- what a line wrote: nothing, or a true message
 abbrev pub Told : Meaning → Page → Book → List ℕ → Type 0
@@ -73,7 +73,7 @@ Told kind page b bytes = (bytes ≡ []) ⊎ ((m : Message) × Sent kind page byt
 
 -- this table knows that site z has all that the message's intervals say
 abbrev pub Credits : View → ℕ → Message → Type 0
-Credits v z m = All (λ h. h.1.to ≤ entry v h.0 z h.1.site) (stretches m)
+Credits v z m = AllByRecursion (λ h. h.1.to ≤ entry v h.0 z h.1.site) (stretches m)
 
 -- what a site has taken, it knows to be its own and the sender's
 abbrev pub Absorbed : Meaning → Page → ℕ → View → Call → Type 0
@@ -91,5 +91,5 @@ Absorbed kind page s v (Archives article r) = Unit {0}
 pub record Standing (kind : Meaning) (page : Page) (lines : List Line) (views : ℕ → View) : Type 0 where
   pub sites : (s : ℕ) → s < page.sites → Site kind page (book page lines) s (views s)
   pub ledger : Ledger page (book page lines)
-  pub told : All (λ line. Told kind page (book page lines) (wrote line.call)) lines
-  pub absorbed : All (λ line. (line.site < page.sites) × Absorbed kind page line.site (views line.site) line.call) lines
+  pub told : AllByRecursion (λ line. Told kind page (book page lines) (wrote line.call)) lines
+  pub absorbed : AllByRecursion (λ line. (line.site < page.sites) × Absorbed kind page line.site (views line.site) line.call) lines

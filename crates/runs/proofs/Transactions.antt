@@ -1,6 +1,6 @@
 -- What a commit writes is a true message, and so the step of commit. Assumes nothing.
 use Rattle.std.proofs.Common.{◌≡◌, ℕ, ◌+◌, ◌<◌, ◌≤◌, max, Bool, true, false, cond, eqb, ltb, leb, List, [], ◌∷◌, map, length, take, Ok, Err, Result, sym, refl, ap, ◌∙◌, subst, inl, inr, ⊎_elim, arith}
-use Rattle.std.specs.List.{range_with_len, ContainsAt as Has, AllByRecursion as All}
+use Rattle.std.specs.List.{range_with_len, ContainsAt as Has, AllByRecursion}
 use Rattle.std.proofs.ByRecursion.{all-has, all_kept_by, All-map, has_append_right}
 use Rattle.std.proofs.lemmas.Bool.{eq-eqb, leb-true, ltb-true}
 use Rattle.action.specs.declared.orders.Action.{Action}
@@ -48,9 +48,9 @@ module _ (kind : Meaning) (page : Page) (b : Book) (s : ℕ) (of_group : s < pag
   each_section : (P : Section → Type 0) → ((a : ℕ) → Has (written_articles v) a → P (transaction_section v a)) → (c : Section) → Has m.sections c → P c
   each_section P each c h = all-has P m.sections c (All-map P (transaction_section v) (written_articles v) (all_from_has (λ a. P (transaction_section v a)) (written_articles v) each)) h
 
-  each_interval : (P : ℕ × Interval → Type 0) → ((a : ℕ) → Has (written_articles v) a → P (a, interval a)) → All P (stretches m)
+  each_interval : (P : ℕ × Interval → Type 0) → ((a : ℕ) → Has (written_articles v) a → P (a, interval a)) → AllByRecursion P (stretches m)
   each_interval P each =
-      all_joined (λ c. map (λ i. (c.article, i)) c.intervals) P m.sections (each_section (λ c. All P (map (λ i. (c.article, i)) c.intervals)) (λ a h. (each a h, tt)))
+      all_joined (λ c. map (λ i. (c.article, i)) c.intervals) P m.sections (each_section (λ c. AllByRecursion P (map (λ i. (c.article, i)) c.intervals)) (λ a h. (each a h, tt)))
 
   listed : (a : ℕ) → Has (written_articles v) a → a < page.articles
   listed a h =
@@ -70,7 +70,7 @@ module _ (kind : Meaning) (page : Page) (b : Book) (s : ℕ) (of_group : s < pag
         (λ old. absurd (omega (arith, above, own_before a (listed a h), subst (λ (c : ℕ). x.time ≤ b.reach s c s) on_it (old_own kind page b s of_group v site l x old (of-it ∙ own_s)))))
         (λ mine. has_joined (λ c. c.actions) m.sections (transaction_section v a) x (has_map (transaction_section v) (written_articles v) a h) (has_kept_by (λ y. eqb y.article a) v.pending x (subst (λ (xs : List Action). Has xs x) site.pending_is mine) (eq-eqb x.article a on_it)))
         (has_append_cases b.committed (b.pending s) x has));
-    sure = all_joined (λ c. c.actions) (Has then.committed) m.sections (each_section (λ c. All (Has then.committed) c.actions) (λ a h.
+    sure = all_joined (λ c. c.actions) (Has then.committed) m.sections (each_section (λ c. AllByRecursion (Has then.committed) c.actions) (λ a h.
         all_from_has (Has then.committed) (on a v.pending) (λ x k. has_append_right b.committed (b.pending s) x (subst (λ (xs : List Action). Has xs x) (sym site.pending_is) (has_kept_by_parts (λ y. eqb y.article a) v.pending x k).0))));
   }
 

@@ -1,6 +1,6 @@
 -- Known entries after they are raised. Assumes nothing.
 use Rattle.std.proofs.Common.{◌≡◌, ℕ, ◌<◌, ◌≤◌, max, ◌⊎◌, List, [], length, get_or, replicate, sym, ap, ◌∙◌, subst, inl, inr, ⊎_elim, arith}
-use Rattle.std.specs.List.{AllByRecursion as All}
+use Rattle.std.specs.List.{AllByRecursion}
 use Rattle.std.proofs.ByRecursion.{All-get_or, All-set}
 use Rattle.std.proofs.lemmas.List.{get_or_past, get_or-replicate, get_or-set_other, get_or-set_same, length-set, set_past}
 use Rattle.std.proofs.lemmas.Bool.{cases_eq, cases_lt}
@@ -8,7 +8,7 @@ use Rattle.row.specs.Entries.{at, raised, unknown}
 
 -- eight rows of eight entries
 abbrev pub Eights : List (List ℕ) → Type 0
-Eights known = (length known ≡ 8) × All (λ entries. length entries ≡ 8) known
+Eights known = (length known ≡ 8) × AllByRecursion (λ entries. length entries ≡ 8) known
 
 module _ (known : List (List ℕ)) (z q t : ℕ) (eights : Eights known) where
   row_long : z < 8 → length (get_or known z []) ≡ 8
@@ -19,7 +19,7 @@ module _ (known : List (List ℕ)) (z q t : ℕ) (eights : Eights known) where
     length-set known z _ ∙ eights.0,
     ⊎_elim
         (λ lt. All-set (λ entries. length entries ≡ 8) known z _ (length-set (get_or known z []) q _ ∙ row_long lt) eights.1)
-        (λ past. subst (All (λ entries. length entries ≡ 8)) (sym (set_past known z _ (omega (arith, eights.0)))) eights.1)
+        (λ past. subst (AllByRecursion (λ entries. length entries ≡ 8)) (sym (set_past known z _ (omega (arith, eights.0)))) eights.1)
         (cases_lt z 8),
   )
 

@@ -1,6 +1,6 @@
 -- The greatest of a number and those of a list's elements. Assumes nothing.
 use Rattle.std.proofs.Common.{◌≡◌, ℕ, ◌<◌, ◌≤◌, max, List, [], ◌∷◌, fold, ⊎_elim, arith}
-use Rattle.std.specs.List.{ContainsAt as Has, AllByRecursion as All}
+use Rattle.std.specs.List.{ContainsAt as Has, AllByRecursion}
 use Rattle.std.proofs.lemmas.Bool.{cases_lt}
 use Rattle.action.proofs.Members.{has_first, has_later}
 
@@ -12,11 +12,11 @@ module _ {X : Type 0} (f : X → ℕ) where
   greatest_from t [] = omega arith
   greatest_from t (x ∷ xs) = omega (arith, greatest_from (max t (f x)) xs, greatest_from (max 0 (f x)) xs)
 
-  pub greatest_ge : (t : ℕ) (xs : List X) → All (λ x. f x ≤ greatest t xs) xs
+  pub greatest_ge : (t : ℕ) (xs : List X) → AllByRecursion (λ x. f x ≤ greatest t xs) xs
   greatest_ge t [] = tt
   greatest_ge t (x ∷ xs) = (omega (arith, greatest_from (max t (f x)) xs), greatest_ge (max t (f x)) xs)
 
-  pub greatest_le : (c t : ℕ) (xs : List X) → t ≤ c → All (λ x. f x ≤ c) xs → greatest t xs ≤ c
+  pub greatest_le : (c t : ℕ) (xs : List X) → t ≤ c → AllByRecursion (λ x. f x ≤ c) xs → greatest t xs ≤ c
   greatest_le c t [] h k = h
   greatest_le c t (x ∷ xs) h k = greatest_le c (max t (f x)) xs (omega (arith, k.0)) k.1
 

@@ -1,6 +1,6 @@
 -- What a sound table writes is a lawful message for its group. Assumes nothing.
 use Rattle.std.proofs.Common.{◌≡◌, ℕ, ◌+◌, ◌<◌, ◌≤◌, max, true, eqb, ltb, List, [], ◌∷◌, map, length, get_or, filter, sym, refl, ap, subst, arith}
-use Rattle.std.specs.List.{range_with_len, AllByRecursion as All}
+use Rattle.std.specs.List.{range_with_len, AllByRecursion}
 use Rattle.std.proofs.lemmas.List.FromFn.{length-map-range_with_len}
 use Rattle.std.proofs.ByRecursion.{All-from_get_or, All-get_or, all_kept_by, All-map, All-weaker, kept_by_passes}
 use Rattle.std.proofs.lemmas.List.Sums.{count_by-le-length, length-filter}
@@ -94,7 +94,7 @@ module _ (kind : Meaning) (v : View) (s : Sound kind v) where
     pub in_time : x.time ≤ v.clock + length pending
     pub latest_on : x.article ≡ a → x.time ≤ latest a pending
 
-  pub told : (a : ℕ) → All (Pending a) pending
+  pub told : (a : ℕ) → AllByRecursion (Pending a) pending
   told a =
       All-from_get_or (Pending a) pending no_action (λ i lt.
       let w = s.waiting in

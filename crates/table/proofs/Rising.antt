@@ -1,20 +1,20 @@
 -- Numbers in strictly ascending order. Assumes nothing.
 use Rattle.std.proofs.Common.{◌≡◌, ℕ, zero, suc, ◌+◌, ◌<◌, ◌≤◌, Bool, true, false, cond, List, [], ◌∷◌, map, filter, refl, ◌∙◌, arith}
-use Rattle.std.specs.List.{range_with_len, ContainsAt as Has, AllByRecursion as All}
+use Rattle.std.specs.List.{range_with_len, ContainsAt as Has, AllByRecursion}
 use Rattle.std.proofs.lemmas.List.FromFn.{get_or-range_with_len, length-range_with_len}
 use Rattle.std.proofs.ByRecursion.{all_kept_by, All-weaker}
 use Rattle.message.specs.Lawful.{Rising}
 use Rattle.message.proofs.Carried.{has_map}
 
-counting_ge : (a n : ℕ) → All (λ y. a ≤ y) (range_with_len a n)
+counting_ge : (a n : ℕ) → AllByRecursion (λ y. a ≤ y) (range_with_len a n)
 counting_ge a zero = tt
 counting_ge a (suc n) = (omega arith, All-weaker (λ y. a + 1 ≤ y) (λ y. a ≤ y) (λ y h. omega (arith, h)) (range_with_len (a + 1) n) (counting_ge (a + 1) n))
 
-counting_lt : (a n m : ℕ) → a + n ≤ m → All (λ y. y < m) (range_with_len a n)
+counting_lt : (a n m : ℕ) → a + n ≤ m → AllByRecursion (λ y. y < m) (range_with_len a n)
 counting_lt a zero m h = tt
 counting_lt a (suc n) m h = (omega arith, counting_lt (a + 1) n m (omega arith))
 
-pub below_counting : (n : ℕ) → All (λ y. y < n) (range_with_len 0 n)
+pub below_counting : (n : ℕ) → AllByRecursion (λ y. y < n) (range_with_len 0 n)
 below_counting n = counting_lt 0 n n (omega arith)
 
 pub rising_counting : (a n : ℕ) → Rising (range_with_len a n)

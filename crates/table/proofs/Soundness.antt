@@ -1,6 +1,6 @@
 -- Every call keeps a sound table sound. Assumes nothing.
 use Rattle.std.proofs.Common.{◌≡◌, ℕ, ◌+◌, ◌<◌, ◌≤◌, max, Bool, true, false, cond, List, [], ◌++◌, length, get_or, ℤ, None, Ok, Err, Option, Result, sym, refl, ap, ◌∙◌, subst, ⊎_elim, arith, w32, w64, SFits}
-use Rattle.std.specs.List.{AllByRecursion as All}
+use Rattle.std.specs.List.{AllByRecursion}
 use Rattle.std.proofs.ByRecursion.{All-append, All-from_get_or, All-get_or, All-weaker}
 use Rattle.std.proofs.lemmas.List.{get_or_past, get_or-replicate, length-append, length_push}
 use Rattle.std.proofs.lemmas.Bool.{and_parts, cases_eq, cases_lt, false≢true, leb-true, ltb-true}
@@ -167,7 +167,7 @@ module _ (kind : Meaning) (v : View) (s : Sound kind v) (free : length v.history
   committed_entry_column a q other =
       by_entry (λ b e. e own q ≡ entry v b own q) (λ b _. refl) (λ b lt. at_raised_column (row v b).known own own (latest b v.pending) (square_row b lt) own_lt q other) a
 
-  times : All (λ x. (v.clock + 0 < x.time) × (x.time ≤ v.clock + 0 + length v.pending)) v.pending
+  times : AllByRecursion (λ x. (v.clock + 0 < x.time) × (x.time ≤ v.clock + 0 + length v.pending)) v.pending
   times = waiting_times kind v.setup v.clock 0 v.pending s.waiting
 
   latest_in_time : (a : ℕ) → latest a v.pending ≤ v.clock + length v.pending
@@ -190,7 +190,7 @@ module _ (kind : Meaning) (v : View) (s : Sound kind v) (free : length v.history
       (cases_eq z own)
 
   -- a pending action's time is reached by the article's own entry
-  reached_pending : All (λ x. x.time ≤ entry w x.article own x.coordinator) v.pending
+  reached_pending : AllByRecursion (λ x. x.time ≤ entry w x.article own x.coordinator) v.pending
   reached_pending =
       All-from_get_or _ v.pending no_action (λ i lt.
       let x = get_or v.pending i no_action in
@@ -228,7 +228,7 @@ module _ (kind : Meaning) (v : View) (s : Sound kind v) (free : length v.history
     closed = λ _. refl;
   }
     where
-      in_clock : All (λ x. x.time ≤ v.clock) v.history
+      in_clock : AllByRecursion (λ x. x.time ≤ v.clock) v.history
       in_clock = All-weaker (λ x. x.time ≤ entry v x.article own x.coordinator) (λ x. x.time ≤ v.clock) (λ x h. omega (arith, h, s.clocked x.article x.coordinator)) v.history s.reached
 
 -- THE CALLS

@@ -1,6 +1,6 @@
 -- Known entries after the intervals of a message. Assumes nothing.
 use Rattle.std.proofs.Common.{◌≡◌, ℕ, ◌<◌, ◌≤◌, max, Bool, true, false, cond, ◌&&◌, eqb, ◌⊎◌, List, [], ◌∷◌, fold, filter, sym, refl, ap, ◌∙◌, subst, ⊎_elim, arith}
-use Rattle.std.specs.List.{ContainsAt as Has, AllByRecursion as All}
+use Rattle.std.specs.List.{ContainsAt as Has, AllByRecursion}
 use Rattle.std.proofs.ByRecursion.{all-has}
 use Rattle.std.proofs.lemmas.Bool.{and_from, and_parts, cases_eq, eq-eqb, eqb-true, ne_eqb}
 use Rattle.action.proofs.Members.{all_from_has, has_kept_by, has_kept_by_parts}
@@ -65,7 +65,7 @@ module _ (own sender : ℕ) (own_lt : own < 8) (sender_lt : sender < 8) where
             subst (λ (n : ℕ). at (step known h) n p ≡ max (at known n p) t) (sym is) (omega (arith, at_raised once sender p t twice sender_lt sited, at_raised_ge known own p t e own_lt sited sender p, at_raised_le known own p t e own_lt sited sender p))
 
     -- this table's row and the sender's are raised to what the intervals say
-    pub at_told : (known : List (List ℕ)) (hs : List (ℕ × Interval)) → Eights known → All (λ h. h.1.site < 8) hs → (q : ℕ) → at (fold (raised_by own sender) known hs) z q ≡ max (at known z q) (up_to q hs)
+    pub at_told : (known : List (List ℕ)) (hs : List (ℕ × Interval)) → Eights known → AllByRecursion (λ h. h.1.site < 8) hs → (q : ℕ) → at (fold (raised_by own sender) known hs) z q ≡ max (at known z q) (up_to q hs)
     at_told known [] e sited q = omega arith
     at_told known (h ∷ hs) e sited q =
         let once = eights_raised known own h.1.site h.1.to e in
@@ -90,7 +90,7 @@ module _ (a q : ℕ) (hs : List (ℕ × Interval)) where
   pub up_to_highest : up_to q (filter (λ h. eqb h.0 a) hs) ≡ highest a q hs
   up_to_highest = ap (greatest (λ (h : ℕ × Interval). h.1.to) 0) (kept_by_both (λ h. eqb h.1.site q) (λ h. eqb h.0 a) hs)
 
-  pub highest_le : (c : ℕ) → All (λ h. (h.0 ≡ a) → (h.1.site ≡ q) → h.1.to ≤ c) hs → highest a q hs ≤ c
+  pub highest_le : (c : ℕ) → AllByRecursion (λ h. (h.0 ≡ a) → (h.1.site ≡ q) → h.1.to ≤ c) hs → highest a q hs ≤ c
   highest_le c each =
       greatest_le (λ (h : ℕ × Interval). h.1.to) c 0 (filter is_on hs) (omega arith) (all_from_has (λ h. h.1.to ≤ c) (filter is_on hs) (λ h k.
       let here = on_it h k in

@@ -1,7 +1,7 @@
 -- A table that took a message: what the checks say, its entries and its new actions, and that it is sound.
 -- Assumes nothing.
 use Rattle.std.proofs.Common.{◌≡◌, ℕ, ◌+◌, ◌<◌, ◌≤◌, max, Bool, true, false, cond, eqb, ltb, leb, ◌⊎◌, List, [], length, ℤ, Some, None, Ok, Err, filter, Option, Result, sym, refl, ap, ◌∙◌, subst, inl, inr, ⊎_elim, arith, w64, SFits}
-use Rattle.std.specs.List.{ContainsAt as Has, AllByRecursion as All}
+use Rattle.std.specs.List.{ContainsAt as Has, AllByRecursion}
 use Rattle.std.proofs.ByRecursion.{All-from_get_or, All-get_or, all-has, all_kept_by, All-weaker, kept_by_passes}
 use Rattle.std.proofs.lemmas.Bool.{and_cases, cases_eq, eq-eqb, leb-true, ltb-false, ltb-true, true≢false}
 use Rattle.action.specs.declared.orders.Action.{Action}
@@ -52,19 +52,19 @@ module _ (v : View) (m : Message) (passes : take_refusal v m ≡ None) where
   second : (first_of (is_ahead v) 0 0 (records m) ≡ None) × (full ≡ None)
   second = unfound (first_of (is_ahead v) 0 0 (records m)) 14 full first.1
 
-  pub not_behind : All (λ h. is_behind v h.0 h.1 ≡ false) (stretches m)
-  not_behind = subst (All (λ h. is_behind v h.0 h.1 ≡ false)) (stretches_of 0 m) (none_found (is_behind v) 0 0 (records m) first.0)
+  pub not_behind : AllByRecursion (λ h. is_behind v h.0 h.1 ≡ false) (stretches m)
+  not_behind = subst (AllByRecursion (λ h. is_behind v h.0 h.1 ≡ false)) (stretches_of 0 m) (none_found (is_behind v) 0 0 (records m) first.0)
 
-  pub not_ahead : All (λ h. is_ahead v h.0 h.1 ≡ false) (stretches m)
-  not_ahead = subst (All (λ h. is_ahead v h.0 h.1 ≡ false)) (stretches_of 0 m) (none_found (is_ahead v) 0 0 (records m) second.0)
+  pub not_ahead : AllByRecursion (λ h. is_ahead v h.0 h.1 ≡ false) (stretches m)
+  not_ahead = subst (AllByRecursion (λ h. is_ahead v h.0 h.1 ≡ false)) (stretches_of 0 m) (none_found (is_ahead v) 0 0 (records m) second.0)
 
   -- every interval begins at what this table has reached, or below it
-  pub begun_within : All (λ h. h.1.from ≤ entry v h.0 mine h.1.site) (stretches m)
+  pub begun_within : AllByRecursion (λ h. h.1.from ≤ entry v h.0 mine h.1.site) (stretches m)
   begun_within =
       All-weaker (λ h. is_behind v h.0 h.1 ≡ false) (λ h. h.1.from ≤ entry v h.0 mine h.1.site) (λ h k. ltb-false (entry v h.0 mine h.1.site) h.1.from k) (stretches m) not_behind
 
   -- and none says more of the own site than it has done
-  pub own_within : All (λ h. (h.1.site ≡ mine) → h.1.to ≤ entry v h.0 mine mine) (stretches m)
+  pub own_within : AllByRecursion (λ h. (h.1.site ≡ mine) → h.1.to ≤ entry v h.0 mine mine) (stretches m)
   own_within =
       All-weaker (λ h. is_ahead v h.0 h.1 ≡ false) (λ h. (h.1.site ≡ mine) → h.1.to ≤ entry v h.0 mine mine) (λ h k same.
       ⊎_elim
@@ -95,13 +95,13 @@ module _ (kind : Meaning) (v : View) (m : Message) (s : Sound kind v) (l : Lawfu
   sender_lt : m.sender < 8
   sender_lt = omega (arith, l.sent, v.setup.few_sites)
 
-  lawful : All (λ h. (h.0 < v.setup.articles) × LawfulInterval v.setup h.1) (stretches m)
+  lawful : AllByRecursion (λ h. (h.0 < v.setup.articles) × LawfulInterval v.setup h.1) (stretches m)
   lawful = stretches_lawful kind v.setup m l
 
   abbrev about : ℕ → List (ℕ × Interval)
   about a = filter (λ h. eqb h.0 a) (stretches m)
 
-  sited : (a : ℕ) → All (λ h. h.1.site < 8) (about a)
+  sited : (a : ℕ) → AllByRecursion (λ h. h.1.site < 8) (about a)
   sited a =
       all_kept_by (λ h. eqb h.0 a) (λ h. h.1.site < 8) (stretches m) (All-weaker (λ h. (h.0 < v.setup.articles) × LawfulInterval v.setup h.1) (λ h. h.1.site < 8) (λ h k. omega (arith, k.1.of_group, v.setup.few_sites)) (stretches m) lawful)
 
@@ -156,7 +156,7 @@ module _ (kind : Meaning) (v : View) (m : Message) (s : Sound kind v) (l : Lawfu
 
   -- THE NEW ACTIONS
 
-  pub news_fitting : All (Fitting kind v.setup) (news v m)
+  pub news_fitting : AllByRecursion (Fitting kind v.setup) (news v m)
   news_fitting =
       all_kept_by (is_new v) (Fitting kind v.setup) (carried m) (All-weaker (λ x. (c : Section) × LawfulSection kind v.setup c × LawfulAction kind c x) (Fitting kind v.setup) (λ x h. fits x h.0 h.1 h.2) (carried m) (carried_lawful kind v.setup m l))
     where
@@ -173,18 +173,18 @@ module _ (kind : Meaning) (v : View) (m : Message) (s : Sound kind v) (l : Lawfu
       }
 
   -- they lie above what the table had reached, and within what it has now
-  pub news_above : All (λ x. entry v x.article own x.coordinator < x.time) (news v m)
+  pub news_above : AllByRecursion (λ x. entry v x.article own x.coordinator < x.time) (news v m)
   news_above = All-weaker (λ x. is_new v x ≡ true) (λ x. entry v x.article own x.coordinator < x.time) (λ x h. ltb-true (entry v x.article own x.coordinator) x.time h) (news v m) (kept_by_passes (is_new v) (carried m))
 
-  pub news_reached : All (λ x. x.time ≤ entry w x.article own x.coordinator) (news v m)
+  pub news_reached : AllByRecursion (λ x. x.time ≤ entry w x.article own x.coordinator) (news v m)
   news_reached =
       all_kept_by (is_new v) (λ x. x.time ≤ entry w x.article own x.coordinator) (carried m) (All-weaker (λ x. (i : Interval) × Has (stretches m) (x.article, i) × Carries i x) (λ x. x.time ≤ entry w x.article own x.coordinator) (λ x h.
       subst (λ (q : ℕ). x.time ≤ entry w x.article own q) h.2.0 (omega (arith, h.2.2, taken_reaches x.article own h.0 (inl refl) h.1))) (carried m) (carried_within kind v.setup m l))
 
   -- none of them stands in the history
-  among : All (λ x. All (Ranked x) v.history) (news v m)
+  among : AllByRecursion (λ x. AllByRecursion (Ranked x) v.history) (news v m)
   among =
-      All-weaker (λ x. entry v x.article own x.coordinator < x.time) (λ x. All (Ranked x) v.history) (λ x above.
+      All-weaker (λ x. entry v x.article own x.coordinator < x.time) (λ x. AllByRecursion (Ranked x) v.history) (λ x above.
       All-weaker (λ y. y.time ≤ entry v y.article own y.coordinator) (Ranked x) (λ y below. ranked_unless x y (λ c t a. let same : entry v x.article own x.coordinator ≡ entry v y.article own y.coordinator = (λ i. entry v (a i) own (c i)) in omega (arith, above, below, t, same))) v.history s.reached) (news v m) news_above
 
   pub taken_ordered : Ascending (taken_history v m)
@@ -200,7 +200,7 @@ module _ (kind : Meaning) (step_fits : (f : ℤ) (o : ℕ) (a : ℤ) → SFits w
     new_row : (a : ℕ) → a < 64 → row u a ≡ taken_row kind v m a (row v a)
     new_row a lt = row_each (taken_row kind v m) v.rows a (omega (arith, s.each_article))
 
-    known : (xs : List Action) → All (Fitting kind v.setup) xs → All (λ x. knows_action kind.knows x ≡ true) xs
+    known : (xs : List Action) → AllByRecursion (Fitting kind v.setup) xs → AllByRecursion (λ x. knows_action kind.knows x ≡ true) xs
     known xs h = All-weaker (Fitting kind v.setup) (λ x. knows_action kind.knows x ≡ true) (λ x k. k.known) xs h
 
     taken_worked : (a : ℕ) → a < 64 → (row u a).kept ≡ working kind.steps (row u a).base (on a u.history)

@@ -1,6 +1,6 @@
 -- Pending actions. Assumes nothing.
 use Rattle.std.proofs.Common.{◌≡◌, ℕ, suc, ◌+◌, ◌<◌, ◌≤◌, max, cond, eqb, ◌⊎◌, List, [], ◌∷◌, ◌++◌, length, fold, sym, refl, ap, subst, inl, inr, ⊎_elim, arith}
-use Rattle.std.specs.List.{ContainsAt as Has, AllByRecursion as All}
+use Rattle.std.specs.List.{ContainsAt as Has, AllByRecursion}
 use Rattle.std.proofs.ByRecursion.{all_kept_by, All-weaker}
 use Rattle.std.proofs.lemmas.Bool.{cases_eq, eq-eqb, ne_eqb}
 use Rattle.action.specs.declared.orders.Action.{Action}
@@ -19,7 +19,7 @@ module _ (kind : Meaning) (setup : Setup) (clock : ℕ) where
   waiting_push i [] x h k = (subst (λ (n : ℕ). Waiting kind setup clock n x) (omega arith) k, tt)
   waiting_push i (y ∷ ys) x h k = (h.0, waiting_push (suc i) ys x h.1 (subst (λ (n : ℕ). Waiting kind setup clock n x) (omega arith) k))
 
-  pub waiting_fitting : (i : ℕ) (xs : List Action) → AllWaiting kind setup clock i xs → All (Fitting kind setup) xs
+  pub waiting_fitting : (i : ℕ) (xs : List Action) → AllWaiting kind setup clock i xs → AllByRecursion (Fitting kind setup) xs
   waiting_fitting i [] h = tt
   waiting_fitting i (x ∷ xs) h =
       let w = h.0 in (
@@ -37,7 +37,7 @@ module _ (kind : Meaning) (setup : Setup) (clock : ℕ) where
       )
 
   -- their times lie above the clock and within the transaction's length of it
-  pub waiting_times : (i : ℕ) (xs : List Action) → AllWaiting kind setup clock i xs → All (λ x. (clock + i < x.time) × (x.time ≤ clock + i + length xs)) xs
+  pub waiting_times : (i : ℕ) (xs : List Action) → AllWaiting kind setup clock i xs → AllByRecursion (λ x. (clock + i < x.time) × (x.time ≤ clock + i + length xs)) xs
   waiting_times i [] h = tt
   waiting_times i (x ∷ xs) h = (
     (omega (arith, h.0.timed), omega (arith, h.0.timed)),
@@ -68,7 +68,7 @@ module _ (kind : Meaning) (setup : Setup) (clock : ℕ) where
       (λ k. (k.0, has_later x xs k.0 k.1, omega (arith, k.2)))
       (waiting_last (suc i) xs h.1))
 
-  pub waiting_own : (i : ℕ) (xs : List Action) → AllWaiting kind setup clock i xs → All (λ x. x.coordinator ≡ setup.own) xs
+  pub waiting_own : (i : ℕ) (xs : List Action) → AllWaiting kind setup clock i xs → AllByRecursion (λ x. x.coordinator ≡ setup.own) xs
   waiting_own i [] h = tt
   waiting_own i (x ∷ xs) h = (h.0.coordinated, waiting_own (suc i) xs h.1)
 
@@ -76,10 +76,10 @@ module _ (kind : Meaning) (setup : Setup) (clock : ℕ) where
 abbrev times : ℕ → List Action → ℕ
 times t xs = fold (λ t x. max t x.time) t xs
 
-all_on : (P : Action → Type 0) (a : ℕ) (xs : List Action) → All P xs → All P (on a xs)
+all_on : (P : Action → Type 0) (a : ℕ) (xs : List Action) → AllByRecursion P xs → AllByRecursion P (on a xs)
 all_on P a xs h = all_kept_by (λ x. eqb x.article a) P xs h
 
-pub latest_le : (c a : ℕ) (xs : List Action) → All (λ x. x.time ≤ c) xs → latest a xs ≤ c
+pub latest_le : (c a : ℕ) (xs : List Action) → AllByRecursion (λ x. x.time ≤ c) xs → latest a xs ≤ c
 latest_le c a xs h = greatest_le (λ x. x.time) c 0 (on a xs) (omega arith) (all_on (λ x. x.time ≤ c) a xs h)
 
 on_head : (a : ℕ) (x : Action) (xs : List Action) → x.article ≡ a → on a (x ∷ xs) ≡ x ∷ on a xs
@@ -88,16 +88,16 @@ on_head a x xs same = ap (λ b. cond b (x ∷ on a xs) (on a xs)) (eq-eqb x.arti
 on_tail : (a : ℕ) (x : Action) (xs : List Action) → (x.article ≡ a → ⊥) → on a (x ∷ xs) ≡ on a xs
 on_tail a x xs other = ap (λ b. cond b (x ∷ on a xs) (on a xs)) (ne_eqb x.article a other)
 
-latest_from : (t a : ℕ) (xs : List Action) → All (λ x. x.article ≡ a → x.time ≤ times t (on a xs)) xs
+latest_from : (t a : ℕ) (xs : List Action) → AllByRecursion (λ x. x.article ≡ a → x.time ≤ times t (on a xs)) xs
 latest_from t a [] = tt
 latest_from t a (x ∷ xs) =
     ⊎_elim
     (λ same. let on-is : on a (x ∷ xs) ≡ x ∷ on a xs = on_head a x xs same in
-    ((λ _. subst (λ l. x.time ≤ times t l) (sym on-is) (omega (arith, greatest_from (λ x. x.time) (max t x.time) (on a xs)))), subst (λ l. All (λ y. y.article ≡ a → y.time ≤ times t l) xs) (sym on-is) (latest_from (max t x.time) a xs)))
+    ((λ _. subst (λ l. x.time ≤ times t l) (sym on-is) (omega (arith, greatest_from (λ x. x.time) (max t x.time) (on a xs)))), subst (λ l. AllByRecursion (λ y. y.article ≡ a → y.time ≤ times t l) xs) (sym on-is) (latest_from (max t x.time) a xs)))
     (λ other. let on-is : on a (x ∷ xs) ≡ on a xs = on_tail a x xs other in
-    ((λ e. absurd (other e)), subst (λ l. All (λ y. y.article ≡ a → y.time ≤ times t l) xs) (sym on-is) (latest_from t a xs)))
+    ((λ e. absurd (other e)), subst (λ l. AllByRecursion (λ y. y.article ≡ a → y.time ≤ times t l) xs) (sym on-is) (latest_from t a xs)))
     (cases_eq x.article a)
 
 -- no time on an article is later than the latest on it
-pub latest_ge : (a : ℕ) (xs : List Action) → All (λ x. x.article ≡ a → x.time ≤ latest a xs) xs
+pub latest_ge : (a : ℕ) (xs : List Action) → AllByRecursion (λ x. x.article ≡ a → x.time ≤ latest a xs) xs
 latest_ge a xs = latest_from 0 a xs

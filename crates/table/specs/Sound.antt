@@ -1,7 +1,7 @@
 -- What holds of every table that was made and then changed by its calls alone. Assumes nothing.
 use Rattle.std.specs.Prelude.{◌≡◌, ℕ, suc, ◌+◌, ◌<◌, ◌≤◌, true, false, List, [], ◌∷◌, length, FitsSigned}
 use Rattle.std.specs.Int.{w32, w64}
-use Rattle.std.specs.List.{AllByRecursion as All}
+use Rattle.std.specs.List.{AllByRecursion}
 use Rattle.action.specs.declared.orders.Action.{Action}
 use Rattle.action.specs.declared.setups.Setup.{Setup}
 use Rattle.action.specs.Order.{Ascending}
@@ -37,16 +37,16 @@ AllWaiting kind setup clock i (x ∷ xs) = Waiting kind setup clock i x × AllWa
 
 -- known entries for eight sites each
 abbrev pub Square : Row → Type 0
-Square r = (length r.known ≡ 8) × All (λ entries. length entries ≡ 8) r.known
+Square r = (length r.known ≡ 8) × AllByRecursion (λ entries. length entries ≡ 8) r.known
 
 pub record Sound (kind : Meaning) (v : View) : Type 0 where
   -- the history is in strict order and within its capacity
   pub ordered : Ascending v.history
   pub held : length v.history ≤ v.capacity
   pub few_places : v.capacity ≤ 1024
-  pub fitting : All (Fitting kind v.setup) v.history
+  pub fitting : AllByRecursion (Fitting kind v.setup) v.history
   -- no action is above its coordinator's entry in the vector
-  pub reached : All (λ x. x.time ≤ entry v x.article v.setup.own x.coordinator) v.history
+  pub reached : AllByRecursion (λ x. x.time ≤ entry v x.article v.setup.own x.coordinator) v.history
   -- no entry is above the own one, and none of those above the clock
   pub believed : (a z q : ℕ) → entry v a z q ≤ entry v a v.setup.own q
   pub clocked : (a q : ℕ) → entry v a v.setup.own q ≤ v.clock
@@ -55,7 +55,7 @@ pub record Sound (kind : Meaning) (v : View) : Type 0 where
   pub worked : (a : ℕ) → a < 64 → (row v a).kept ≡ working kind.steps (row v a).base (on a v.history)
   pub based : (a : ℕ) → FitsSigned w64 (row v a).base
   pub each_article : length v.rows ≡ 64
-  pub square : All Square v.rows
+  pub square : AllByRecursion Square v.rows
   -- only an open transaction has pending actions
   pub few : length v.pending ≤ 16
   pub waiting : AllWaiting kind v.setup v.clock 0 v.pending

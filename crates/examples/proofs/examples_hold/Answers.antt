@@ -1,11 +1,11 @@
 use Rattle.std.proofs.Common.{rules}
-use Rattle.std.specs.List.{AllByRecursion as All}
+use Rattle.std.specs.List.{AllByRecursion}
 use Rattle.std.specs.Int.{int_wrap}
 use Rattle.examples.specs.Table.{Holds, examples}
 use Rattle.examples.proofs.examples_hold.Goals as goal
 
 -- each row computes
-table_holds : All Holds examples
+table_holds : AllByRecursion Holds examples
 unfolding int_wrap
 table_holds = search rules
 
