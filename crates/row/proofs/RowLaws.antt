@@ -91,6 +91,9 @@ pub raised_within : (known : List (List ℕ)) (z q t : ℕ) → t ≤ at known z
 raised_within known z q t le =
     ap (λ e. set known z (set (get_or known z []) q e)) (omega arith) ∙ ap (set known z) (set-get_or (get_or known z []) q 0) ∙ set-get_or known z []
 
+pub raised_none : (known : List (List ℕ)) (z q : ℕ) → raised known z q 0 ≡ known
+raised_none known z q = raised_within known z q 0 (omega arith)
+
 -- the greatest of t and the times of xs
 abbrev times : ℕ → List Action → ℕ
 times t xs = fold (λ t x. max t x.time) t xs
@@ -103,7 +106,7 @@ raised_by_lem z q r t (x ∷ xs) =
 
 pub raised_from : (z q : ℕ) (r : Row) (xs : List Action) → fold (λ r x. raised_row z q x.time r) r xs ≡ raised_row z q (times 0 xs) r
 raised_from z q r xs =
-    ap (λ k. fold (λ r x. raised_row z q x.time r) (record { base = r.base; kept = r.kept; known = k }) xs) (sym (raised_within r.known z q 0 (omega arith))) ∙ raised_by_lem z q r 0 xs
+    ap (λ k. fold (λ r x. raised_row z q x.time r) (record { base = r.base; kept = r.kept; known = k }) xs) (sym (raised_none r.known z q)) ∙ raised_by_lem z q r 0 xs
 
 -- a row raised by intervals
 pub told_by : (own sender : ℕ) (r : Row) (hs : List (ℕ × Interval)) → fold (λ r h. raised_row sender h.1.site h.1.to (raised_row own h.1.site h.1.to r)) r hs ≡ record { base = r.base; kept = r.kept; known = fold (raised_by own sender) r.known hs }
