@@ -1,7 +1,7 @@
 /*
  * Site tables: the call for C.
  *
- * Link with libc_api.a, which `rt staticlib c_api` writes.
+ * Link with libc_api.a, which `scripts/build c_api` writes to crates/c_api/out.
  */
 #ifndef SITE_TABLES_H
 #define SITE_TABLES_H

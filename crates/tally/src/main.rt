@@ -26,7 +26,7 @@ fn fill(input: &mut Stdin, buffer: &mut [u8]) -> io::Result<usize>
 }
 
 fn main(rt: HostRuntime) -> io::Result<()> {
-    // The laws of whole runs, of which every script makes one.
+    // The laws of whole runs, on the contract of this call.
     each_movement_counted_once::<OnHand>();
     let mut input = [0; LONGEST_SCRIPT];
     let length = fill(&mut rt.stdin(), &mut input)?;
