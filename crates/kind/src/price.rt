@@ -1,6 +1,6 @@
 ghost use Rattle.std.specs.Prelude.{◌≡◌, pos, neg_ℤ, ◌≤ℤ◌};
 ghost use Rattle.kind.specs.Meanings.{held, price, raised};
-ghost use Rattle.std.proofs.Common.{rules};
+ghost use Rattle.std.proofs.Common.{refl, rules};
 
 use crate::interface::Kind;
 
@@ -38,7 +38,15 @@ impl Kind for Price {
 
     const START_FIGURE: i64 = 0;
 
+    ghost KIND_NUMBER = { price.number };
+
+    ghost START_FIGURE = { price.starts };
+
     ghost means = { price };
+
+    ghost numbered = { refl };
+
+    ghost starting = { refl };
 
     ghost number_fits = { Prim.search rules };
 
@@ -49,14 +57,6 @@ impl Kind for Price {
     ghost unknown_leaves = { Prim.search rules };
 
     ghost commute = { Prim.search rules };
-
-    fn number() -> u8 {
-        Self::KIND_NUMBER
-    }
-
-    fn start() -> i64 {
-        Self::START_FIGURE
-    }
 
     fn is_known(operation: u8, amount: i32) -> bool {
         let amount = i64::from(amount);
