@@ -39,7 +39,7 @@ impl Kind for Flags {
     ghost commute = { λ f o a p b fits c x y. flags_commute f o a p b fits x y };
 
     fn is_known(operation: u8, amount: i32) -> bool {
-        operation == SWITCH_ON && 1 <= amount && amount <= ALL_FLAGS
+        operation == SWITCH_ON && (1..=ALL_FLAGS).contains(&amount)
     }
 
     fn step(figure: i64, operation: u8, amount: i32) -> i64 {

@@ -39,7 +39,7 @@ impl Kind for OnHand {
     ghost commute = { λ f o a p b fits c x y. on_hand_commutes f o a p b x y };
 
     fn is_known(operation: u8, amount: i32) -> bool {
-        operation == ADD && -MOST_MOVED <= amount && amount <= MOST_MOVED
+        operation == ADD && (-MOST_MOVED..=MOST_MOVED).contains(&amount)
     }
 
     fn step(figure: i64, operation: u8, amount: i32) -> i64 {
