@@ -3,3 +3,4 @@ pub mod Meanings
 pub mod Working
 pub mod FlagsLaws
 pub mod OnHandLaws
+pub mod PriceLaws

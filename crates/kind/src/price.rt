@@ -1,7 +1,10 @@
 ghost use Rattle.std.specs.Prelude.{◌≡◌, cond, Some, None, pos, neg_ℤ, ◌≤ℤ◌};
 ghost use Rattle.kind.specs.Meanings.{held, price, raised, raises_price, sets_price};
 ghost use Rattle.kind.specs.declared.price.Change.TheVariants.{Raise, Set};
-ghost use Rattle.std.proofs.Common.{refl, rules};
+ghost use Rattle.kind.specs.PriceLaws.{price_fits, price_unknown};
+ghost use Rattle.std.proofs.Common.{lit≤, refl};
+ghost use Rattle.std.proofs.Math.Facts.{sfits_lit};
+ghost use Rattle.std.proofs.lemmas.Bool.{false≢true};
 
 use crate::interface::Kind;
 
@@ -70,15 +73,15 @@ impl Kind for Price {
 
     ghost starting = { refl };
 
-    ghost number_fits = { Prim.search rules };
+    ghost number_fits = { lit≤ tt };
 
-    ghost start_fits = { Prim.search rules };
+    ghost start_fits = { sfits_lit tt };
 
-    ghost step_fits = { Prim.search rules };
+    ghost step_fits = { price_fits };
 
-    ghost unknown_leaves = { Prim.search rules };
+    ghost unknown_leaves = { price_unknown };
 
-    ghost commute = { Prim.search rules };
+    ghost commute = { λ f o a p b fits c x y. absurd (false≢true c) };
 
     fn is_known(operation: u8, amount: i32) -> bool {
         change_of(operation, amount).is_some()
