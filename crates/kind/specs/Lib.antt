@@ -1,3 +1,4 @@
+pub mod Changes
 pub mod Meaning
 pub mod Meanings
 pub mod Working

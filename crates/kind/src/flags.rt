@@ -6,7 +6,7 @@ ghost use Rattle.std.proofs.Math.Facts.{sfits_lit};
 use crate::interface::Kind;
 
 // Flags, a bit for each: kind 2.
-#[derive(Clone, Copy)]
+#[derive(Clone, Copy, Debug, PartialEq, Eq)]
 pub struct Flags;
 
 const SWITCH_ON: u8 = 1;

@@ -6,7 +6,7 @@ ghost use Rattle.std.proofs.Math.Facts.{sfits_lit};
 use crate::interface::Kind;
 
 // How many are on hand: kind 1.
-#[derive(Clone, Copy)]
+#[derive(Clone, Copy, Debug, PartialEq, Eq)]
 pub struct OnHand;
 
 const ADD: u8 = 1;
