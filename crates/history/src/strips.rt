@@ -24,6 +24,7 @@ pub struct Strip {
     ghost counted: { length (strip_items used bytes.items) ≡ used },
 }
 
+#[tactic(auto, using(crate::proofs::Places::strip_steps))]
 impl Strip {
     // An empty strip of as many places as the memory has room for, 1,024 at the most.
     pub fn new(memory: Vec<u8>) -> Strip
