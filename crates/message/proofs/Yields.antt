@@ -1,0 +1,66 @@
+-- What the iterators over a message yield. Assumes nothing.
+use Rattle.std.proofs.Common.{◌≡◌, ℕ, ◌+◌, Bool, true, false, cond, List, [], ◌∷◌, map, length, drop, Some, None, Option, fold, sym, refl, ap, ◌∙◌, subst, arith}
+use Rattle.std.specs.Bool.{⊤}
+use Rattle.std.specs.Iterator.{MakesProgress, YieldsFirst, item_count}
+use Rattle.std.specs.Iterator.Runs.{YieldsInOrder}
+use Rattle.std.specs.List.{find}
+use Rattle.std.specs.Option.{option_map}
+use Rattle.std.proofs.iter.runs.Sources.{as_is, from_front}
+use Rattle.action.specs.declared.orders.Action.{Action}
+use Rattle.message.specs.declared.reading.Found.{Found}
+use Rattle.message.specs.declared.reading.Stretch.{Stretch}
+use Rattle.message.specs.declared.records.Interval.{Interval}
+use Rattle.message.specs.declared.records.Record.{Record}
+use Rattle.message.specs.declared.records.Record.TheVariants as RecordKinds
+use Rattle.message.specs.Format.{record_bytes}
+use Rattle.message.specs.Found.{actions_among, found_from, placed, stretches_among, stretches_in, told}
+use Rattle.message.specs.Walks.{action_in, actions_of, first_of, intervals_of, record_in, records_in}
+use Rattle.message.proofs.Walking.{records_end, records_from}
+
+-- ITERATORS THAT ARE SEEN AS WHAT THEY HAVE LEFT
+
+module _ {A : Type 0} where
+  pub takes_runs : YieldsInOrder (YieldsFirst {A = A} (λ left. left)) (λ left. left)
+  takes_runs p s = as_is p p.from (from_front (YieldsFirst {A = A} (λ left. left)) (λ x. x) (λ left. left) (λ s t h. ap length h.0) (λ s x t h. h) p s)
+
+  pub takes_goes : (s t : List A) (x : A) → s ≡ x ∷ t → MakesProgress {S = List A} (λ _. ⊤) (item_count (λ left. left)) s (Some x) t
+  takes_goes s t x e = record { on = λ _. (tt, tt, omega (arith, ap length e)); keeps = tt; rests = λ _. tt }
+
+-- RECORDS, WITH THEIR PLACES
+
+module _ (bytes : List ℕ) (at : ℕ) where
+  pub found_next : (r : Record) → record_in (drop at bytes) ≡ Some r → found_from bytes at ≡ record { offset = at; «record» = r } ∷ found_from bytes (at + length (record_bytes r))
+  found_next r h = ap (placed at) (records_from bytes at r h)
+
+  pub found_end : record_in (drop at bytes) ≡ None → found_from bytes at ≡ []
+  found_end h = ap (placed at) (records_end (drop at bytes) h)
+
+pub actions_placed : (at : ℕ) (rs : List Record) → actions_among (placed at rs) ≡ actions_of rs
+actions_placed at [] = refl
+actions_placed at (RecordKinds.Header _ ∷ rs) = actions_placed (at + 6) rs
+actions_placed at (RecordKinds.Section _ ∷ rs) = actions_placed (at + 5) rs
+actions_placed at (RecordKinds.Interval _ ∷ rs) = actions_placed (at + 10) rs
+actions_placed at (RecordKinds.Action x ∷ rs) = ap (λ xs. x ∷ xs) (actions_placed (at + 16) rs)
+
+pub told_placed : (at a : ℕ) (rs : List Record) → map told (stretches_among a (placed at rs)) ≡ intervals_of a rs
+told_placed at a [] = refl
+told_placed at a (RecordKinds.Header _ ∷ rs) = told_placed (at + 6) a rs
+told_placed at a (RecordKinds.Section s ∷ rs) = told_placed (at + 5) s.article rs
+told_placed at a (RecordKinds.Interval i ∷ rs) = ap (λ is. (a, i) ∷ is) (told_placed (at + 10) a rs)
+told_placed at a (RecordKinds.Action _ ∷ rs) = told_placed (at + 16) a rs
+
+-- the first stretch that passes a test
+pub first_placed : (test : ℕ → Interval → Bool) (at a : ℕ) (rs : List Record) → option_map (λ s. s.offset) (find (λ s. test s.article s.interval) (stretches_among a (placed at rs))) ≡ first_of test at a rs
+first_placed test at a [] = refl
+first_placed test at a (RecordKinds.Header _ ∷ rs) = first_placed test (at + 6) a rs
+first_placed test at a (RecordKinds.Section s ∷ rs) = first_placed test (at + 5) s.article rs
+first_placed test at a (RecordKinds.Action _ ∷ rs) = first_placed test (at + 16) a rs
+first_placed test at a (RecordKinds.Interval i ∷ rs) = by_test (test a i) _ _ (first_placed test (at + 10) a rs)
+  where
+    by_test : (b : Bool) (o : Option Stretch) (n : Option ℕ) → option_map (λ s. s.offset) o ≡ n → option_map (λ s. s.offset) (cond b (Some (record { offset = at; article = a; interval = i })) o) ≡ cond b (Some at) n
+    by_test true o n e = refl
+    by_test false o n e = e
+
+-- the place that a search of a message's intervals answers
+pub first_in : (test : ℕ → Interval → Bool) (bytes : List ℕ) (r : Option Stretch) → r ≡ find (λ s. test s.article s.interval) (stretches_in bytes) → option_map (λ s. s.offset) r ≡ first_of test 0 0 (records_in bytes)
+first_in test bytes r e = ap (option_map (λ s. s.offset)) e ∙ first_placed test 0 0 (records_in bytes)
