@@ -1,5 +1,5 @@
 -- What the iterators over a message yield. Assumes nothing.
-use Rattle.std.proofs.Common.{◌≡◌, ℕ, ◌+◌, Bool, true, false, cond, List, [], ◌∷◌, map, length, drop, Some, None, Option, fold, sym, refl, ap, ◌∙◌, subst, arith}
+use Rattle.std.proofs.Common.{◌≡◌, ℕ, zero, suc, ◌+◌, ◌≤◌, Bool, true, false, cond, List, [], ◌∷◌, map, length, drop, Some, None, Option, fold, sym, refl, ap, ◌∙◌, subst, arith}
 use Rattle.std.specs.Bool.{⊤}
 use Rattle.std.specs.Iterator.{MakesProgress, YieldsFirst, item_count}
 use Rattle.std.specs.Iterator.Runs.{YieldsInOrder}
@@ -14,7 +14,7 @@ use Rattle.message.specs.declared.records.Record.{Record}
 use Rattle.message.specs.declared.records.Record.TheVariants as RecordKinds
 use Rattle.message.specs.Format.{record_bytes}
 use Rattle.message.specs.Found.{actions_among, found_from, placed, stretches_among, stretches_in, told}
-use Rattle.message.specs.Walks.{action_in, actions_of, first_of, intervals_of, record_in, records_in}
+use Rattle.message.specs.Walks.{action_in, actions_of, first_of, intervals_of, next_records, record_in, records_by, records_in}
 use Rattle.message.proofs.Walking.{records_end, records_from}
 
 -- ITERATORS THAT ARE SEEN AS WHAT THEY HAVE LEFT
@@ -64,3 +64,34 @@ first_placed test at a (RecordKinds.Interval i ∷ rs) = by_test (test a i) _ _ 
 -- the place that a search of a message's intervals answers
 pub first_in : (test : ℕ → Interval → Bool) (bytes : List ℕ) (r : Option Stretch) → r ≡ find (λ s. test s.article s.interval) (stretches_in bytes) → option_map (λ s. s.offset) r ≡ first_of test 0 0 (records_in bytes)
 first_in test bytes r e = ap (option_map (λ s. s.offset)) e ∙ first_placed test 0 0 (records_in bytes)
+
+-- HOW MANY THERE ARE
+
+few_by : (turns : ℕ) (bs : List ℕ) → length (records_by turns bs) ≤ turns
+few_by zero bs = omega arith
+few_by (suc turns) bs = go (few_by turns) (record_in bs)
+  where
+    go : ((l : List ℕ) → length (records_by turns l) ≤ turns) → (o : Option Record) → length (next_records (records_by turns) bs o) ≤ suc turns
+    go less None = omega arith
+    go less (Some r) = omega (arith, less (drop (length (record_bytes r)) bs))
+
+pub few_records : (bs : List ℕ) → length (records_in bs) ≤ length bs
+few_records bs = few_by (length bs) bs
+
+pub few_placed : (at : ℕ) (rs : List Record) → length (placed at rs) ≡ length rs
+few_placed at [] = refl
+few_placed at (r ∷ rs) = ap suc (few_placed (at + length (record_bytes r)) rs)
+
+pub few_actions : (rs : List Record) → length (actions_of rs) ≤ length rs
+few_actions [] = omega arith
+few_actions (RecordKinds.Header _ ∷ rs) = omega (arith, few_actions rs)
+few_actions (RecordKinds.Section _ ∷ rs) = omega (arith, few_actions rs)
+few_actions (RecordKinds.Interval _ ∷ rs) = omega (arith, few_actions rs)
+few_actions (RecordKinds.Action _ ∷ rs) = omega (arith, few_actions rs)
+
+pub few_stretches : (at a : ℕ) (rs : List Record) → length (stretches_among a (placed at rs)) ≤ length rs
+few_stretches at a [] = omega arith
+few_stretches at a (RecordKinds.Header _ ∷ rs) = omega (arith, few_stretches (at + 6) a rs)
+few_stretches at a (RecordKinds.Section s ∷ rs) = omega (arith, few_stretches (at + 5) s.article rs)
+few_stretches at a (RecordKinds.Interval _ ∷ rs) = omega (arith, few_stretches (at + 10) a rs)
+few_stretches at a (RecordKinds.Action _ ∷ rs) = omega (arith, few_stretches (at + 16) a rs)

@@ -32,6 +32,7 @@ impl<'a> Records<'a> {
     // All records of the message, up to where none begins.
     pub fn new(bytes: &'a [u8]) -> Records<'a>
         ensures left { result ≡ found_in bytes.now }
+        ensures few { length result ≤ length bytes.now }
         ensures runs { YieldsInOrder (YieldsFirst {A = Found} (λ left. left)) (λ left. left) }
     {
         Records { bytes, at: 0 }
@@ -71,6 +72,7 @@ impl<'a> Intervals<'a> {
     pub fn new(bytes: &'a [u8]) -> Intervals<'a>
         ensures left { result ≡ stretches_in bytes.now }
         ensures told { map told result ≡ intervals_of 0 (records_in bytes.now) }
+        ensures few { length result ≤ length bytes.now }
         ensures runs { YieldsInOrder (YieldsFirst {A = Stretch} (λ left. left)) (λ left. left) }
     {
         Intervals {
@@ -119,6 +121,7 @@ impl<'a> Actions<'a> {
     // All actions of the message.
     pub fn new(bytes: &'a [u8]) -> Actions<'a>
         ensures left { result ≡ actions_of (records_in bytes.now) }
+        ensures few { length result ≤ length bytes.now }
         ensures runs { YieldsInOrder (YieldsFirst {A = Action} (λ left. left)) (λ left. left) }
     {
         Actions {
