@@ -1,20 +1,18 @@
 -- What the iterators over a message yield. Assumes nothing.
-use Rattle.std.proofs.Common.{◌≡◌, ℕ, zero, suc, ◌+◌, ◌≤◌, Bool, true, false, cond, List, [], ◌∷◌, map, length, drop, Some, None, Option, fold, sym, refl, ap, ◌∙◌, subst, arith}
+use Rattle.std.proofs.Common.{◌≡◌, ℕ, zero, suc, ◌+◌, ◌≤◌, Bool, true, false, cond, List, [], ◌∷◌, map, length, drop, Some, None, Option, refl, ap, ◌∙◌, arith}
 use Rattle.std.specs.Bool.{⊤}
 use Rattle.std.specs.Iterator.{MakesProgress, YieldsFirst, item_count}
 use Rattle.std.specs.Iterator.Runs.{YieldsInOrder}
 use Rattle.std.specs.List.{find}
 use Rattle.std.specs.Option.{option_map}
 use Rattle.std.proofs.iter.runs.Sources.{as_is, from_front}
-use Rattle.action.specs.declared.orders.Action.{Action}
-use Rattle.message.specs.declared.reading.Found.{Found}
 use Rattle.message.specs.declared.reading.Stretch.{Stretch}
 use Rattle.message.specs.declared.records.Interval.{Interval}
 use Rattle.message.specs.declared.records.Record.{Record}
 use Rattle.message.specs.declared.records.Record.TheVariants as RecordKinds
 use Rattle.message.specs.Format.{record_bytes}
 use Rattle.message.specs.Found.{actions_among, found_from, placed, stretches_among, stretches_in, told}
-use Rattle.message.specs.Walks.{action_in, actions_of, first_of, intervals_of, next_records, record_in, records_by, records_in}
+use Rattle.message.specs.Walks.{actions_of, first_of, intervals_of, next_records, record_in, records_by, records_in}
 use Rattle.message.proofs.Walking.{records_end, records_from}
 
 -- ITERATORS THAT ARE SEEN AS WHAT THEY HAVE LEFT
@@ -61,9 +59,10 @@ first_placed test at a (RecordKinds.Interval i ∷ rs) = by_test (test a i) _ _ 
     by_test true o n e = refl
     by_test false o n e = e
 
--- the place that a search of a message's intervals answers
-pub first_in : (test : ℕ → Interval → Bool) (bytes : List ℕ) (r : Option Stretch) → r ≡ find (λ s. test s.article s.interval) (stretches_in bytes) → option_map (λ s. s.offset) r ≡ first_of test 0 0 (records_in bytes)
-first_in test bytes r e = ap (option_map (λ s. s.offset)) e ∙ first_placed test 0 0 (records_in bytes)
+-- the place that `find` over a message's intervals answers, in the form in which std's lemma on `find` says what it found
+pub first_in : (test : ℕ → Interval → Bool) (bytes : List ℕ) (r : Option Stretch) → option_map (λ s. s) r ≡ find (λ s. test s.article s.interval) (stretches_in bytes) → option_map (λ s. s.offset) r ≡ first_of test 0 0 (records_in bytes)
+first_in test bytes None e = ap (option_map (λ s. s.offset)) e ∙ first_placed test 0 0 (records_in bytes)
+first_in test bytes (Some s) e = ap (option_map (λ s. s.offset)) e ∙ first_placed test 0 0 (records_in bytes)
 
 -- HOW MANY THERE ARE
 

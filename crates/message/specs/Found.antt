@@ -6,7 +6,6 @@ use Rattle.message.specs.declared.reading.Found.{Found}
 use Rattle.message.specs.declared.reading.Stretch.{Stretch}
 use Rattle.message.specs.declared.records.Interval.{Interval}
 use Rattle.message.specs.declared.records.Record.{Record}
-use Rattle.message.specs.declared.records.Record.TheVariants as RecordKinds
 use Rattle.message.specs.Format.{record_bytes}
 use Rattle.message.specs.Walks.{action_in, article_after, interval_in, records_in}
 

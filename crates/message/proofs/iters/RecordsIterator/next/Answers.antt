@@ -1,4 +1,4 @@
-use Rattle.std.proofs.Common.{◌≡◌, ◌+◌, ◌∷◌, sym, ap, ◌∙◌}
+use Rattle.std.proofs.Common.{◌+◌, ◌∷◌, sym, ap, ◌∙◌}
 use Rattle.message.specs.Found.{found_from}
 use Rattle.message.proofs.Yields.{found_next, takes_goes}
 use Rattle.message.proofs.iters.RecordsIterator.next.Goals as goal
