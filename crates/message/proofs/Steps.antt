@@ -30,9 +30,9 @@ found_record kind setup p q at r (Ok (Some x)) h = by_verdict (admitted kind set
         let same : x ≡ r = ap (λ t. t.0) both in
         let next : s ≡ q = ap (λ t. t.1) both in
         (ap (λ y. Ok (Some y)) same, ap (admitted kind setup p) (sym same) ∙ is ∙ ap Ok next)
-    by_verdict (Err f) is e = absurd (let z : ◌≡◌ {A = ℕ} 0 1 = cc in omega arith)
-found_record kind setup p q at r (Ok None) h = absurd (let z : ◌≡◌ {A = ℕ} 0 1 = cc in omega arith)
-found_record kind setup p q at r (Err f) h = absurd (let z : ◌≡◌ {A = ℕ} 0 1 = cc in omega arith)
+    by_verdict (Err f) is e = cc
+found_record kind setup p q at r (Ok None) h = cc
+found_record kind setup p q at r (Err f) h = cc
 
 pub onward_passes : (kind : Meaning) (setup : Setup) (p q : Progress) (r : Record) → is_due p.due r ≡ true → admitted kind setup p r ≡ Ok q → onward kind setup (Some p) r ≡ Some q
 onward_passes kind setup p q r is passed = ap (λ b. cond b (result_ok (admitted kind setup p r)) None) is ∙ ap result_ok passed
