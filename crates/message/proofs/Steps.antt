@@ -1,5 +1,5 @@
 -- One record more. Assumes nothing.
-use Rattle.std.proofs.Common.{◌≡◌, ℕ, ◌+◌, ◌<◌, ◌≤◌, Bool, true, cond, List, [], ◌∷◌, ◌++◌, length, get_or, drop, Some, None, Ok, Err, Option, Result, count_by, sym, refl, ap, ◌∙◌, subst, arith}
+use Rattle.std.proofs.Common.{◌≡◌, ℕ, ◌+◌, ◌<◌, ◌≤◌, Bool, true, false, cond, List, [], ◌∷◌, ◌++◌, length, get_or, drop, Some, None, Ok, Err, Option, Result, count_by, sym, refl, ap, ◌∙◌, subst, arith}
 use Rattle.std.specs.List.{flat_map}
 use Rattle.std.specs.Result.{result_ok}
 use Rattle.std.proofs.ByRecursion.{All-push}
@@ -62,6 +62,17 @@ module _ (kind : Meaning) (setup : Setup) (bytes : List ℕ) (fits : (i : ℕ) �
         let more = begun_more at p q f.«record» b here in
         subst (λ (n : ℕ). (c : Begun kind setup bytes n q) × (c.records ≡ b.records ++ (f.«record» ∷ []))) (sym h.2) (more, refl)
 
+    -- and of how many actions there were so far
+    pub count_more : (at to : ℕ) (p q : Progress) (f : Found) (n : ℕ) → (b : Begun kind setup bytes at p) × (n ≡ count_by is_action b.records) → Next kind setup₁ p at bytes₁ (Ok (Some f)) q to → (t : Bool) → t ≡ is_action f.«record» → (c : Begun kind setup bytes to q) × (cond t (n + 1) n ≡ count_by is_action c.records)
+    count_more at to p q f n (b, so) h t is =
+        let more = read_more at to p q f b h in
+        let one : count_by is_action more.0.records ≡ count_by is_action b.records + cond t 1 0 = ap (count_by is_action) more.1 ∙ sum_by_push (λ x. cond (is_action x) 1 0) b.records f.«record» ∙ ap (λ u. count_by is_action b.records + cond u 1 0) (sym is) in
+        (more.0, counts t n _ _ so one)
+      where
+        counts : (t : Bool) (n k l : ℕ) → n ≡ k → l ≡ k + cond t 1 0 → cond t (n + 1) n ≡ l
+        counts true n k l so one = omega arith
+        counts false n k l so one = omega arith
+
     pub read_all : (at to : ℕ) (p q : Progress) → Next kind setup₁ p at bytes₁ (Ok None) q to → step kind setup p at (drop at bytes) ≡ Ok None
     read_all at to p q h = (λ i. step kind (sym same-setup i) p at (drop at (sym same_bytes i))) ∙ h.0
 
@@ -70,6 +81,3 @@ record_size (RecordKinds.Header h) = omega arith
 record_size (RecordKinds.Section s) = omega arith
 record_size (RecordKinds.Interval i) = omega arith
 record_size (RecordKinds.Action a) = omega arith
-
-pub counted_more : (rs qs : List Record) (r : Record) (b : Bool) → qs ≡ rs ++ (r ∷ []) → b ≡ is_action r → count_by is_action qs ≡ count_by is_action rs + cond b 1 0
-counted_more rs qs r b more is = ap (count_by is_action) more ∙ sum_by_push (λ x. cond (is_action x) 1 0) rs r ∙ ap (λ t. count_by is_action rs + cond t 1 0) (sym is)
