@@ -14,7 +14,7 @@ use Rattle.message.specs.declared.records.Record.TheVariants as RecordKinds
 use Rattle.message.specs.Format.{Message, Section, carried, records, section_records, stretches}
 use Rattle.message.specs.Lawful.{Carries, LawfulAction, LawfulInterval, LawfulMessage, LawfulSection, Rising}
 use Rattle.message.specs.Walks.{actions_of, first_of, intervals_of}
-use Rattle.message.proofs.Intervals.{all_from_map}
+use Rattle.message.proofs.SectionIntervals.{all_from_map}
 
 -- LISTS IN A ROW
 
@@ -44,7 +44,7 @@ none_found test at a (RecordKinds.Section s ∷ rs) h = none_found test (at + 5)
 none_found test at a (RecordKinds.Action _ ∷ rs) h = none_found test (at + 16) a rs h
 none_found test at a (RecordKinds.Interval i ∷ rs) h =
     ⊎_elim
-    (λ e. absurd (let f : Some at ≡ None = sym (cond-true (test a i) (Some at) _ e) ∙ h in let z : ◌≡◌ {A = ℕ} 0 1 = cc in omega arith))
+    (λ e. absurd (let f : Some at ≡ None = sym (cond-true (test a i) (Some at) _ e) ∙ h in cc))
     (λ e. (e, none_found test (at + 10) a rs (sym (cond-false (test a i) (Some at) _ e) ∙ h)))
     (cases_Bool (test a i))
 
