@@ -1,5 +1,6 @@
+ghost use Rattle.std.specs.Prelude.{◌≡◌};
 ghost use Rattle.table.specs.Archiving.{Archived};
-ghost use Rattle.table.specs.View.{view};
+ghost use Rattle.table.specs.Sound.{Sound};
 
 use crate::faults::TableFault;
 use crate::tables::Table;
@@ -8,10 +9,13 @@ use kind::Kind;
 use row::{least_entry, move_actions};
 
 impl<K: Kind, H: History> Table<K, H> {
-    pub(crate) fn archive_article(&mut self, article: u8) -> Result<usize, TableFault>
-        ensures { Archived K.means (view H.items H.room self.old) article result (view H.items H.room self.new) }
+    // Works the actions on an article that every site is known to have into its base, and removes them
+    // from the history. Answers how many they were.
+    pub fn archive(&mut self, article: u8) -> Result<usize, TableFault>
+        ensures does { Archived K.means self.old article result self.new }
+        ensures sound { Sound K.means self.new }
     {
-        if self.state.is_open {
+        if self.state.transaction.is_some() {
             return Err(TableFault::AlreadyOpen);
         }
         let setup = self.state.setup;

@@ -53,11 +53,11 @@ fn by_table(number: u8, place: usize) -> Refusal
     }
 }
 
-impl TableFault {
-    pub fn refusal(&self) -> Refusal
-        ensures { result ≡ shown self.now }
-    {
-        match *self {
+impl From<TableFault> for Refusal {
+    ghost from_gives = { λ e r. r ≡ shown e };
+
+    fn from(fault: TableFault) -> Refusal {
+        match fault {
             TableFault::AlreadyOpen => by_table(2, 0),
             TableFault::NotItsTicket => by_table(3, 0),
             TableFault::NoArticle => by_table(4, 0),

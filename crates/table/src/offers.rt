@@ -3,42 +3,51 @@ ghost use Rattle.std.specs.List.{range_with_len, flat_map};
 ghost use Rattle.action.specs.Bytes.{action_bytes};
 ghost use Rattle.message.specs.Buffer.{overwritten};
 ghost use Rattle.message.specs.Format.{interval_bytes};
-ghost use Rattle.table.specs.Offers.{Offered, is_offered, offer_interval};
-ghost use Rattle.table.specs.View.{view};
+ghost use Rattle.message.specs.Lawful.{LawfulMessage};
+ghost use Rattle.table.specs.Offers.{Offered, is_offered, offer_interval, offer_message};
+ghost use Rattle.table.specs.Sound.{Sound};
+ghost use Rattle.table.specs.View.{bare};
 
 use crate::emits::emit;
 use crate::faults::TableFault;
+use crate::state::State;
 use crate::tables::Table;
 use action::Action;
 use history::History;
 use kind::Kind;
 use message::{Header, Interval, Record, SectionHead};
 
-impl<K: Kind, H: History> Table<K, H> {
-    // Does an offer to the peer carry this action?
-    fn is_offered(&self, peer: u8, article: u8, action: &Action) -> bool
-        requires { (peer < 8) × (article < 64) }
-        ensures { result ≡ is_offered (view H.items H.room self.now) peer article action.now }
+// What is asked for: an article's actions that a peer is not known to have.
+#[derive(Clone, Copy)]
+struct Offer {
+    peer: u8,
+    article: u8,
+    ghost of_table: { (peer < 8) × (article < 64) },
+}
+
+impl Offer {
+    // Does the offer carry this action?
+    fn carries(self, state: &State, action: &Action) -> bool
+        ensures { result ≡ is_offered (bare state.now) self.peer self.article action.now }
     {
-        if action.article != article || action.coordinator >= self.state.setup.sites {
+        if action.article != self.article || action.coordinator >= state.setup.sites {
             return false;
         }
-        let known = &self.state.rows[article as usize].known;
+        let known = &state.rows[self.article as usize].known;
         let q = action.coordinator as usize;
-        known[peer as usize][q] < action.time
-            && action.time <= known[self.state.setup.own as usize][q]
+        known[self.peer as usize][q] < action.time
+            && action.time <= known[state.setup.own as usize][q]
     }
 
-    // How many actions an offer to the peer carries.
-    fn count_offered(&self, peer: u8, article: u8) -> Result<usize, TableFault>
-        requires { (peer < 8) × (article < 64) }
-        ensures value { result ≡ Granted (length (filter (is_offered (view H.items H.room self.now) peer article) (H.items self.now.history))) }
+    // How many actions the offer carries.
+    fn count<H: History>(self, state: &State, history: &H) -> Result<usize, TableFault>
+        ensures value { result ≡ Granted (length (filter (is_offered (bare state.now) self.peer self.article) (H.items history.now))) }
         ensures few { IfOk result (λ n. n ≤ 1024) }
     {
         let mut carried = 0;
-        for i in 0..self.history.count() {
-            let action = self.history.read(i)?;
-            if self.is_offered(peer, article, &action) {
+        for i in 0..history.count() {
+            let action = history.read(i)?;
+            if self.carries(state, &action) {
                 carried += 1;
             }
         }
@@ -46,18 +55,18 @@ impl<K: Kind, H: History> Table<K, H> {
     }
 
     // Puts the offer's intervals, one for each site.
-    fn put_intervals(&self, peer: u8, article: u8, buffer: &mut [u8], start: usize) -> usize
-        requires { (peer < 8) × ((article < 64) × (start + 10 * self.now.state.setup.sites ≤ length buffer.old)) }
-        ensures end { result ≡ start + 10 * self.now.state.setup.sites }
-        ensures bytes { buffer.new ≡ overwritten buffer.old start (flat_map interval_bytes (map (offer_interval (view H.items H.room self.now) peer article) (range_with_len 0 self.now.state.setup.sites))) }
+    fn put_intervals(self, state: &State, buffer: &mut [u8], start: usize) -> usize
+        requires { start + 10 * state.now.setup.sites ≤ length buffer.old }
+        ensures end { result ≡ start + 10 * state.now.setup.sites }
+        ensures bytes { buffer.new ≡ overwritten buffer.old start (flat_map interval_bytes (map (offer_interval (bare state.now) self.peer self.article) (range_with_len 0 state.now.setup.sites))) }
     {
-        let setup = self.state.setup;
+        let setup = state.setup;
+        let known = &state.rows[self.article as usize].known;
         let mut at = start;
         for q in 0..setup.sites {
-            let known = &self.state.rows[article as usize].known;
             let interval = Interval {
                 site: q,
-                from: known[peer as usize][q as usize],
+                from: known[self.peer as usize][q as usize],
                 to: known[setup.own as usize][q as usize],
             };
             at = emit(buffer, at, Record::Interval(interval));
@@ -66,34 +75,34 @@ impl<K: Kind, H: History> Table<K, H> {
     }
 
     // Puts the actions that the offer carries.
-    fn put_offered(
-        &self,
-        peer: u8,
-        article: u8,
+    fn put_actions<H: History>(
+        self,
+        state: &State,
+        history: &H,
         buffer: &mut [u8],
         start: usize,
     ) -> Result<usize, TableFault>
-        requires { (peer < 8) × ((article < 64) × (start + 16 * length (filter (is_offered (view H.items H.room self.now) peer article) (H.items self.now.history)) ≤ length buffer.old)) }
-        ensures end { result ≡ Granted (start + 16 * length (filter (is_offered (view H.items H.room self.now) peer article) (H.items self.now.history))) }
-        ensures bytes { buffer.new ≡ overwritten buffer.old start (flat_map action_bytes (filter (is_offered (view H.items H.room self.now) peer article) (H.items self.now.history))) }
+        requires { start + 16 * length (filter (is_offered (bare state.now) self.peer self.article) (H.items history.now)) ≤ length buffer.old }
+        ensures end { result ≡ Granted (start + 16 * length (filter (is_offered (bare state.now) self.peer self.article) (H.items history.now))) }
+        ensures bytes { buffer.new ≡ overwritten buffer.old start (flat_map action_bytes (filter (is_offered (bare state.now) self.peer self.article) (H.items history.now))) }
     {
         let mut at = start;
-        for i in 0..self.history.count() {
-            let action = self.history.read(i)?;
-            if self.is_offered(peer, article, &action) {
+        for i in 0..history.count() {
+            let action = history.read(i)?;
+            if self.carries(state, &action) {
                 at = emit(buffer, at, Record::Action(action));
             }
         }
         Ok(at)
     }
+}
 
-    pub(crate) fn write_offer(
-        &self,
-        peer: u8,
-        article: u8,
-        buffer: &mut [u8],
-    ) -> Result<usize, TableFault>
-        ensures { Offered K.means (view H.items H.room self.now) peer article buffer.old result buffer.new }
+impl<K: Kind, H: History> Table<K, H> {
+    // Writes, for a peer and an article, all that the peer is not known to have: an interval for
+    // each site and the history's actions in them. Answers the length.
+    pub fn offer(&self, peer: u8, article: u8, buffer: &mut [u8]) -> Result<usize, TableFault>
+        ensures does { Offered K.means self.now peer article buffer.old result buffer.new }
+        ensures lawful { article < self.now.setup.articles → LawfulMessage K.means self.now.setup (offer_message K.means self.now peer article) }
     {
         let setup = self.state.setup;
         if article >= setup.articles {
@@ -102,7 +111,8 @@ impl<K: Kind, H: History> Table<K, H> {
         if peer >= setup.sites {
             return Err(TableFault::NoSite);
         }
-        let actions = self.count_offered(peer, article)?;
+        let offer = Offer { peer, article };
+        let actions = offer.count(&self.state, &self.history)?;
         let needed = 11 + 10 * setup.sites as usize + 16 * actions;
         if needed > buffer.len() {
             return Err(TableFault::Short(needed));
@@ -120,7 +130,7 @@ impl<K: Kind, H: History> Table<K, H> {
         };
         let at = emit(buffer, 0, Record::Header(header));
         let at = emit(buffer, at, Record::Section(head));
-        let at = self.put_intervals(peer, article, buffer, at);
-        self.put_offered(peer, article, buffer, at)
+        let at = offer.put_intervals(&self.state, buffer, at);
+        offer.put_actions(&self.state, &self.history, buffer, at)
     }
 }

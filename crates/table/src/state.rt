@@ -1,21 +1,28 @@
-ghost use Rattle.std.specs.Prelude.{◌≡◌, ◌+◌, ◌≤◌, false, length};
+ghost use Rattle.std.specs.Prelude.{◌≡◌};
+ghost use Rattle.table.specs.View.{written_in};
 
-use action::{Action, Setup};
+use action::{Action, MOST_WRITES, Setup};
+use arrayvec::ArrayVec;
 use row::Row;
+
+// What an open transaction has written so far.
+pub(crate) type Pending = ArrayVec<Action, MOST_WRITES>;
 
 // What a table keeps besides its history.
 #[derive(Drop)]
 pub struct State {
     pub setup: Setup,
     pub clock: u32,
-    pub is_open: bool,
-    // How many of `pending` the open transaction has written.
-    pub writes: usize,
-    pub pending: [Action; 16],
+    pub transaction: Option<Pending>,
     pub rows: [Row; 64],
-    ghost sixteen: { length pending ≡ 16 },
-    ghost each_article: { length rows ≡ 64 },
-    ghost few: { writes ≤ 16 },
-    ghost in_time: { clock + writes ≤ 4000000000 },
-    ghost closed: { (is_open ≡ false → writes ≡ 0) },
+}
+
+// What the transaction has written, nothing where none is open.
+pub(crate) fn written_in(transaction: &Option<Pending>) -> &[Action]
+    ensures { result.now ≡ written_in transaction.now }
+{
+    match transaction {
+        Some(pending) => pending.as_slice(),
+        None => &[],
+    }
 }
