@@ -18,12 +18,6 @@ impl Action {
     pub fn precedes(&self, other: &Action) -> bool
         ensures { result ≡ precedes self.now other.now }
     {
-        if self.time != other.time {
-            return self.time < other.time;
-        }
-        if self.coordinator != other.coordinator {
-            return self.coordinator < other.coordinator;
-        }
-        self.article < other.article
+        (self.time, self.coordinator, self.article) < (other.time, other.coordinator, other.article)
     }
 }

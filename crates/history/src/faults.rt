@@ -12,11 +12,11 @@ pub enum HistoryFault {
     NoPlace(usize),
 }
 
-impl HistoryFault {
-    pub fn refusal(&self) -> Refusal
-        ensures { result ≡ shown self.now }
-    {
-        match *self {
+impl From<HistoryFault> for Refusal {
+    ghost from_gives = { λ e r. r ≡ shown e };
+
+    fn from(fault: HistoryFault) -> Refusal {
+        match fault {
             HistoryFault::Full(capacity) => Refusal {
                 number: 16,
                 place: capacity,

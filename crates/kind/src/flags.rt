@@ -1,6 +1,6 @@
 ghost use Rattle.kind.specs.Meanings.{flags};
 ghost use Rattle.kind.specs.FlagsLaws.{flags_commute};
-ghost use Rattle.std.proofs.Common.{rules};
+ghost use Rattle.std.proofs.Common.{refl, rules};
 
 use crate::interface::Kind;
 
@@ -18,7 +18,15 @@ impl Kind for Flags {
 
     const START_FIGURE: i64 = 0;
 
+    ghost KIND_NUMBER = { flags.number };
+
+    ghost START_FIGURE = { flags.starts };
+
     ghost means = { flags };
+
+    ghost numbered = { refl };
+
+    ghost starting = { refl };
 
     ghost number_fits = { Prim.search rules };
 
@@ -30,16 +38,8 @@ impl Kind for Flags {
 
     ghost commute = { λ f o a p b fits c x y. flags_commute f o a p b fits x y };
 
-    fn number() -> u8 {
-        Self::KIND_NUMBER
-    }
-
-    fn start() -> i64 {
-        Self::START_FIGURE
-    }
-
     fn is_known(operation: u8, amount: i32) -> bool {
-        operation == SWITCH_ON && 1 <= amount && amount <= ALL_FLAGS
+        operation == SWITCH_ON && (1..=ALL_FLAGS).contains(&amount)
     }
 
     fn step(figure: i64, operation: u8, amount: i32) -> i64 {

@@ -1,6 +1,6 @@
 ghost use Rattle.kind.specs.Meanings.{on_hand};
 ghost use Rattle.kind.specs.OnHandLaws.{on_hand_fits, on_hand_commutes};
-ghost use Rattle.std.proofs.Common.{rules};
+ghost use Rattle.std.proofs.Common.{refl, rules};
 
 use crate::interface::Kind;
 
@@ -18,7 +18,15 @@ impl Kind for OnHand {
 
     const START_FIGURE: i64 = 0;
 
+    ghost KIND_NUMBER = { on_hand.number };
+
+    ghost START_FIGURE = { on_hand.starts };
+
     ghost means = { on_hand };
+
+    ghost numbered = { refl };
+
+    ghost starting = { refl };
 
     ghost number_fits = { Prim.search rules };
 
@@ -30,16 +38,8 @@ impl Kind for OnHand {
 
     ghost commute = { λ f o a p b fits c x y. on_hand_commutes f o a p b x y };
 
-    fn number() -> u8 {
-        Self::KIND_NUMBER
-    }
-
-    fn start() -> i64 {
-        Self::START_FIGURE
-    }
-
     fn is_known(operation: u8, amount: i32) -> bool {
-        operation == ADD && -MOST_MOVED <= amount && amount <= MOST_MOVED
+        operation == ADD && (-MOST_MOVED..=MOST_MOVED).contains(&amount)
     }
 
     fn step(figure: i64, operation: u8, amount: i32) -> i64 {

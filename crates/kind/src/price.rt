@@ -1,6 +1,7 @@
-ghost use Rattle.std.specs.Prelude.{◌≡◌, pos, neg_ℤ, ◌≤ℤ◌};
-ghost use Rattle.kind.specs.Meanings.{held, price, raised};
-ghost use Rattle.std.proofs.Common.{rules};
+ghost use Rattle.std.specs.Prelude.{◌≡◌, cond, Some, None, pos, neg_ℤ, ◌≤ℤ◌};
+ghost use Rattle.kind.specs.Meanings.{held, price, raised, raises_price, sets_price};
+ghost use Rattle.kind.specs.declared.price.Change.TheVariants.{Raise, Set};
+ghost use Rattle.std.proofs.Common.{refl, rules};
 
 use crate::interface::Kind;
 
@@ -16,6 +17,27 @@ const HIGHEST: i64 = 99_999_999;
 
 // The most thousandths of the price that one action may add or take away.
 const MOST_RAISED: i64 = 500;
+
+// What an action does to a price.
+#[derive(Clone, Copy)]
+enum Change {
+    // To so many cents.
+    Set(i64),
+    // By so many thousandths.
+    Raise(i64),
+}
+
+// The change that a pair stands for, if it is a known one.
+fn change_of(operation: u8, amount: i32) -> Option<Change>
+    ensures { result ≡ cond (sets_price operation amount) (Some (Set amount)) (cond (raises_price operation amount) (Some (Raise amount)) None) }
+{
+    let amount = i64::from(amount);
+    match operation {
+        SET if (0..=HIGHEST).contains(&amount) => Some(Change::Set(amount)),
+        RAISE if (-MOST_RAISED..=MOST_RAISED).contains(&amount) => Some(Change::Raise(amount)),
+        _ => None,
+    }
+}
 
 // The nearest figure that is a price.
 fn held(figure: i64) -> i64
@@ -38,7 +60,15 @@ impl Kind for Price {
 
     const START_FIGURE: i64 = 0;
 
+    ghost KIND_NUMBER = { price.number };
+
+    ghost START_FIGURE = { price.starts };
+
     ghost means = { price };
+
+    ghost numbered = { refl };
+
+    ghost starting = { refl };
 
     ghost number_fits = { Prim.search rules };
 
@@ -50,32 +80,15 @@ impl Kind for Price {
 
     ghost commute = { Prim.search rules };
 
-    fn number() -> u8 {
-        Self::KIND_NUMBER
-    }
-
-    fn start() -> i64 {
-        Self::START_FIGURE
-    }
-
     fn is_known(operation: u8, amount: i32) -> bool {
-        let amount = i64::from(amount);
-        match operation {
-            SET => 0 <= amount && amount <= HIGHEST,
-            RAISE => -MOST_RAISED <= amount && amount <= MOST_RAISED,
-            _ => false,
-        }
+        change_of(operation, amount).is_some()
     }
 
     fn step(figure: i64, operation: u8, amount: i32) -> i64 {
-        if !Self::is_known(operation, amount) {
-            return figure;
-        }
-        let amount = i64::from(amount);
-        if operation == SET {
-            amount
-        } else {
-            raised(figure, amount)
+        match change_of(operation, amount) {
+            Some(Change::Set(cents)) => cents,
+            Some(Change::Raise(thousandths)) => raised(figure, thousandths),
+            None => figure,
         }
     }
 
