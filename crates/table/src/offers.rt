@@ -1,4 +1,4 @@
-ghost use Rattle.std.specs.Prelude.{◌≡◌, ◌+◌, ◌*◌, ◌<◌, ◌≤◌, map, length, IfOk, Ok as Granted, filter};
+ghost use Rattle.std.specs.Prelude.{◌≡◌, ◌+◌, ◌*◌, ◌<◌, ◌≤◌, map, length, filter};
 ghost use Rattle.std.specs.List.{range_with_len, flat_map};
 ghost use Rattle.action.specs.Bytes.{action_bytes};
 ghost use Rattle.message.specs.Buffer.{overwritten};
@@ -13,7 +13,7 @@ use crate::faults::TableFault;
 use crate::state::State;
 use crate::tables::Table;
 use action::Action;
-use history::History;
+use history::{History, actions};
 use kind::Kind;
 use message::{Header, Interval, Record, SectionHead};
 
@@ -40,18 +40,12 @@ impl Offer {
     }
 
     // How many actions the offer carries.
-    fn count<H: History>(self, state: &State, history: &H) -> Result<usize, TableFault>
-        ensures value { result ≡ Granted (length (filter (is_offered (bare state.now) self.peer self.article) (H.items history.now))) }
-        ensures few { IfOk result (λ n. n ≤ 1024) }
+    fn count<H: History>(self, state: &State, history: &H) -> usize
+        ensures { result ≡ length (filter (is_offered (bare state.now) self.peer self.article) (H.items history.now)) }
     {
-        let mut carried = 0;
-        for i in 0..history.count() {
-            let action = history.read(i)?;
-            if self.carries(state, &action) {
-                carried += 1;
-            }
-        }
-        Ok(carried)
+        actions(history)
+            .filter(|action| self.carries(state, action))
+            .count()
     }
 
     // Puts the offer's intervals, one for each site.
@@ -81,19 +75,18 @@ impl Offer {
         history: &H,
         buffer: &mut [u8],
         start: usize,
-    ) -> Result<usize, TableFault>
+    ) -> usize
         requires { start + 16 * length (filter (is_offered (bare state.now) self.peer self.article) (H.items history.now)) ≤ length buffer.old }
-        ensures end { result ≡ Granted (start + 16 * length (filter (is_offered (bare state.now) self.peer self.article) (H.items history.now))) }
+        ensures end { result ≡ start + 16 * length (filter (is_offered (bare state.now) self.peer self.article) (H.items history.now)) }
         ensures bytes { buffer.new ≡ overwritten buffer.old start (flat_map action_bytes (filter (is_offered (bare state.now) self.peer self.article) (H.items history.now))) }
     {
         let mut at = start;
-        for i in 0..history.count() {
-            let action = history.read(i)?;
+        for action in actions(history) {
             if self.carries(state, &action) {
                 at = emit(buffer, at, Record::Action(action));
             }
         }
-        Ok(at)
+        at
     }
 }
 
@@ -112,8 +105,8 @@ impl<K: Kind, H: History> Table<K, H> {
             return Err(TableFault::NoSite);
         }
         let offer = Offer { peer, article };
-        let actions = offer.count(&self.state, &self.history)?;
-        let needed = 11 + 10 * setup.sites as usize + 16 * actions;
+        let carried = offer.count(&self.state, &self.history);
+        let needed = 11 + 10 * setup.sites as usize + 16 * carried;
         if needed > buffer.len() {
             return Err(TableFault::Short(needed));
         }
@@ -126,11 +119,11 @@ impl<K: Kind, H: History> Table<K, H> {
         let head = SectionHead {
             article,
             intervals: setup.sites,
-            actions: actions as u16,
+            actions: carried as u16,
         };
         let at = emit(buffer, 0, Record::Header(header));
         let at = emit(buffer, at, Record::Section(head));
         let at = offer.put_intervals(&self.state, buffer, at);
-        offer.put_actions(&self.state, &self.history, buffer, at)
+        Ok(offer.put_actions(&self.state, &self.history, buffer, at))
     }
 }

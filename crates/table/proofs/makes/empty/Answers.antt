@@ -1,20 +1,11 @@
-use Rattle.std.proofs.Common.{rules, ◌≡◌, [], ℕ, ◌+◌, ◌-◌, ◌*◌, ◌<◌, ◌≤◌, length, ◌/◌, ◌%◌, Bool, true, false, nat_eq, nat_lt, List, ◌∷◌, ◌++◌, slice_index_or, slice_set, bit_and, bit_or, Fits, w8, w32, w64, Bor, MutBor}
-use Rattle.table.specs.Sound.{Sound}
-use Rattle.table.specs.View.{fresh}
+use Rattle.std.proofs.Common.{◌-◌, length, ap, ◌∙◌, arith}
+use Rattle.std.proofs.lemmas.List.Edits.{length-remove}
+use Rattle.history.proofs.Granted.{granted_remove}
 use Rattle.table.proofs.makes.empty.Goals as goal
 
--- src/makes.rt:18:5
-pub loop-last-init : goal.loop-last-init
-loop-last-init g c = ?
-
--- src/makes.rt:18:5
 pub loop-last-preserved : goal.loop-last-preserved
-loop-last-preserved g c = ?
-
--- src/makes.rt:14:1
-pub returns-clause-items : goal.returns-clause-items
-returns-clause-items g c = ?
-
--- src/makes.rt:14:1
-pub returns-clause-room : goal.returns-clause-room
-returns-clause-room g c = ?
+loop-last-preserved g c =
+    let xs = g.H.History.items c.loop-last.history in
+    let i = c.loop-last.last - 1 in
+    let gone = granted_remove xs i c.remove.result (g.H.History.items c.remove.new.self) (omega arith) c.remove.ensures.list in
+    (omega (arith, ap length gone, length-remove xs i (omega arith)), c.remove.ensures.fixed ∙ c.loop-last.invariant.1)
