@@ -1,7 +1,7 @@
 ghost use Rattle.std.specs.Prelude.{◌≡◌, ◌≤◌, min, [], IfOk, vec_len, vec_capacity};
 ghost use Rattle.std.proofs.Common.{rules, arith};
 
-use crate::faults::HistoryFault;
+use crate::faults::{HistoryFault, check_insert, check_place};
 use crate::interface::History;
 use action::{Action, MOST_PLACES};
 use std::alloc::{AllocError, Global};
@@ -43,29 +43,17 @@ impl History for Rack {
     }
 
     fn read(&self, i: usize) -> Result<Action, HistoryFault> {
-        if i >= self.actions.len() {
-            return Err(HistoryFault::NoPlace(i));
-        }
-        Ok(self.actions[i])
+        self.actions.get(i).copied().ok_or(HistoryFault::NoPlace(i))
     }
 
     fn insert(&mut self, i: usize, action: Action) -> Result<(), HistoryFault> {
-        if self.actions.len() >= self.places {
-            return Err(HistoryFault::Full(self.places));
-        }
-        if i > self.actions.len() {
-            return Err(HistoryFault::NoPlace(i));
-        }
-        match self.actions.insert(i, action) {
-            Ok(()) => Ok(()),
-            Err(_) => unreachable(),
-        }
+        check_insert(i, self.actions.len(), self.places)?;
+        self.actions.insert(i, action).unwrap();
+        Ok(())
     }
 
     fn remove(&mut self, i: usize) -> Result<Action, HistoryFault> {
-        if i >= self.actions.len() {
-            return Err(HistoryFault::NoPlace(i));
-        }
+        check_place(i, self.actions.len())?;
         Ok(self.actions.remove(i))
     }
 }

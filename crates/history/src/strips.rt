@@ -3,7 +3,7 @@ ghost use Rattle.std.specs.List.{insert, remove};
 ghost use Rattle.history.specs.Strips.{strip_items};
 ghost use Rattle.std.proofs.Common.{rules, arith};
 
-use crate::faults::HistoryFault;
+use crate::faults::{HistoryFault, check_insert, check_place};
 use crate::interface::History;
 use action::{Action, MOST_PLACES};
 
@@ -11,8 +11,8 @@ use action::{Action, MOST_PLACES};
 const PLACE: usize = 16;
 
 // A history that keeps bytes: in each used place the record of its action. Its memory comes from
-// whoever makes it and keeps its length, so no call allocates, and what is left over after the last
-// whole place is never touched.
+// whoever makes it and keeps its length, so no call allocates and the used places are counted beside
+// it. What is left over after the last whole place is never touched.
 #[derive(Drop)]
 pub struct Strip {
     bytes: Vec<u8>,
@@ -93,28 +93,18 @@ impl History for Strip {
     }
 
     fn read(&self, i: usize) -> Result<Action, HistoryFault> {
-        if i >= self.used {
-            return Err(HistoryFault::NoPlace(i));
-        }
+        check_place(i, self.used)?;
         Ok(self.action_at(i))
     }
 
     fn insert(&mut self, i: usize, action: Action) -> Result<(), HistoryFault> {
-        if self.used >= self.places {
-            return Err(HistoryFault::Full(self.places));
-        }
-        if i > self.used {
-            return Err(HistoryFault::NoPlace(i));
-        }
+        check_insert(i, self.used, self.places)?;
         self.put_in(i, action);
         Ok(())
     }
 
     fn remove(&mut self, i: usize) -> Result<Action, HistoryFault> {
-        if i >= self.used {
-            return Err(HistoryFault::NoPlace(i));
-        }
-        let action = self.action_at(i);
+        let action = self.read(i)?;
         self.take_out(i);
         Ok(action)
     }

@@ -1,11 +1,12 @@
 ghost use Rattle.kind.specs.Meanings.{flags};
-ghost use Rattle.kind.specs.FlagsLaws.{flags_commute};
-ghost use Rattle.std.proofs.Common.{refl, rules};
+ghost use Rattle.kind.specs.FlagsLaws.{flags_commute, flags_fits, flags_unknown};
+ghost use Rattle.std.proofs.Common.{lit≤, refl};
+ghost use Rattle.std.proofs.Math.Facts.{sfits_lit};
 
 use crate::interface::Kind;
 
 // Flags, a bit for each: kind 2.
-#[derive(Clone, Copy)]
+#[derive(Clone, Copy, Debug, PartialEq, Eq)]
 pub struct Flags;
 
 const SWITCH_ON: u8 = 1;
@@ -28,13 +29,13 @@ impl Kind for Flags {
 
     ghost starting = { refl };
 
-    ghost number_fits = { Prim.search rules };
+    ghost number_fits = { lit≤ tt };
 
-    ghost start_fits = { Prim.search rules };
+    ghost start_fits = { sfits_lit tt };
 
-    ghost step_fits = { Prim.search rules };
+    ghost step_fits = { flags_fits };
 
-    ghost unknown_leaves = { Prim.search rules };
+    ghost unknown_leaves = { flags_unknown };
 
     ghost commute = { λ f o a p b fits c x y. flags_commute f o a p b fits x y };
 

@@ -1,11 +1,12 @@
 ghost use Rattle.kind.specs.Meanings.{on_hand};
-ghost use Rattle.kind.specs.OnHandLaws.{on_hand_fits, on_hand_commutes};
-ghost use Rattle.std.proofs.Common.{refl, rules};
+ghost use Rattle.kind.specs.OnHandLaws.{on_hand_commutes, on_hand_fits, on_hand_unknown};
+ghost use Rattle.std.proofs.Common.{lit≤, refl};
+ghost use Rattle.std.proofs.Math.Facts.{sfits_lit};
 
 use crate::interface::Kind;
 
 // How many are on hand: kind 1.
-#[derive(Clone, Copy)]
+#[derive(Clone, Copy, Debug, PartialEq, Eq)]
 pub struct OnHand;
 
 const ADD: u8 = 1;
@@ -28,13 +29,13 @@ impl Kind for OnHand {
 
     ghost starting = { refl };
 
-    ghost number_fits = { Prim.search rules };
+    ghost number_fits = { lit≤ tt };
 
-    ghost start_fits = { Prim.search rules };
+    ghost start_fits = { sfits_lit tt };
 
-    ghost step_fits = { λ f o a fits. on_hand_fits f o a fits };
+    ghost step_fits = { on_hand_fits };
 
-    ghost unknown_leaves = { Prim.search rules };
+    ghost unknown_leaves = { on_hand_unknown };
 
     ghost commute = { λ f o a p b fits c x y. on_hand_commutes f o a p b x y };
 

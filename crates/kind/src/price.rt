@@ -1,12 +1,15 @@
-ghost use Rattle.std.specs.Prelude.{◌≡◌, cond, Some, None, pos, neg_ℤ, ◌≤ℤ◌};
-ghost use Rattle.kind.specs.Meanings.{held, price, raised, raises_price, sets_price};
-ghost use Rattle.kind.specs.declared.price.Change.TheVariants.{Raise, Set};
-ghost use Rattle.std.proofs.Common.{refl, rules};
+ghost use Rattle.std.specs.Prelude.{◌≡◌, false, pos, neg_ℤ, ◌≤ℤ◌, MatchOption};
+ghost use Rattle.kind.specs.Changes.{StandsFor};
+ghost use Rattle.kind.specs.Meanings.{held, price, price_knows, raised};
+ghost use Rattle.kind.specs.PriceLaws.{price_fits, price_unknown};
+ghost use Rattle.std.proofs.Common.{lit≤, refl};
+ghost use Rattle.std.proofs.Math.Facts.{sfits_lit};
+ghost use Rattle.std.proofs.lemmas.Bool.{false≢true};
 
 use crate::interface::Kind;
 
 // A price in cents: kind 3.
-#[derive(Clone, Copy)]
+#[derive(Clone, Copy, Debug, PartialEq, Eq)]
 pub struct Price;
 
 const SET: u8 = 1;
@@ -29,7 +32,7 @@ enum Change {
 
 // The change that a pair stands for, if it is a known one.
 fn change_of(operation: u8, amount: i32) -> Option<Change>
-    ensures { result ≡ cond (sets_price operation amount) (Some (Set amount)) (cond (raises_price operation amount) (Some (Raise amount)) None) }
+    ensures { MatchOption result (price_knows operation amount ≡ false) (StandsFor operation amount) }
 {
     let amount = i64::from(amount);
     match operation {
@@ -70,15 +73,15 @@ impl Kind for Price {
 
     ghost starting = { refl };
 
-    ghost number_fits = { Prim.search rules };
+    ghost number_fits = { lit≤ tt };
 
-    ghost start_fits = { Prim.search rules };
+    ghost start_fits = { sfits_lit tt };
 
-    ghost step_fits = { Prim.search rules };
+    ghost step_fits = { price_fits };
 
-    ghost unknown_leaves = { Prim.search rules };
+    ghost unknown_leaves = { price_unknown };
 
-    ghost commute = { Prim.search rules };
+    ghost commute = { λ f o a p b fits c x y. absurd (false≢true c) };
 
     fn is_known(operation: u8, amount: i32) -> bool {
         change_of(operation, amount).is_some()
