@@ -1,15 +1,14 @@
 -- Lawful beginnings of the same bytes: of two, one begins the other. Assumes nothing.
-use Rattle.std.proofs.Common.{◌≡◌, ℕ, ◌-◌, ◌≤◌, Bool, true, false, cond, ltb, ◌⊎◌, List, [], ◌∷◌, ◌++◌, length, Some, fold, sym, refl, ap, ◌∙◌, subst, inl, inr, arith}
+use Rattle.std.proofs.Common.{◌≡◌, ℕ, ◌-◌, ◌≤◌, Bool, true, false, cond, ltb, ◌⊎◌, List, [], ◌∷◌, ◌++◌, length, Some, Ok, Option, Result, fold, sym, refl, ap, ◌∙◌, subst, inl, inr, arith}
 use Rattle.std.specs.List.{flat_map, AllByRecursion}
 use Rattle.std.proofs.lemmas.List.{append_assoc, append_cancel_left, append-nil, length-append}
 use Rattle.std.proofs.lemmas.Bool.{false≢true}
 use Rattle.action.specs.declared.refusals.Refusal.{Refusal}
 use Rattle.action.specs.declared.setups.Setup.{Setup}
 use Rattle.kind.specs.Meaning.{Meaning}
-use Rattle.message.specs.declared.decodes.Decoded.TheVariants.{Whole}
+use Rattle.message.specs.declared.faults.Flaw.{Flaw}
 use Rattle.message.specs.declared.reading.Due.{Due}
 use Rattle.message.specs.declared.reading.Progress.{Progress}
-use Rattle.message.specs.declared.reading.Verdict.TheVariants.{Passed}
 use Rattle.message.specs.declared.records.Header.{Header}
 use Rattle.message.specs.declared.records.Record.{Record}
 use Rattle.message.specs.declared.records.Record.TheVariants as RecordKinds
@@ -36,7 +35,7 @@ Begins rs qs = (ts : List Record) × (qs ≡ rs ++ ts)
 -- bytes start with one record at most of the kind due
 pub same_record : (d : Due) (r q : Record) (bs : List ℕ) → is_due d r ≡ true → is_due d q ≡ true → Fitting r → Fitting q → StartsWith bs r → StartsWith bs q → r ≡ q
 same_record d r q bs is so f g s t =
-    let e : Whole r ≡ Whole q = sym (decoded_format s.0 d r is f) ∙ ap (decoded d) (sym s.1 ∙ t.1) ∙ decoded_format t.0 d q so g in
+    let e : ◌≡◌ {A = Result (Option Record) Flaw} (Ok (Some r)) (Ok (Some q)) = sym (decoded_format s.0 d r is f) ∙ ap (decoded d) (sym s.1 ∙ t.1) ∙ decoded_format t.0 d q so g in
     cc
 
 -- the bytes after a first record
@@ -54,7 +53,7 @@ module _ (kind : Meaning) (setup : Setup) where
       let b = first_on kind setup p f q qs k in
       let bytes = sym (starts r rs more) ∙ same ∙ starts q qs less in
       let one : r ≡ q = same_record p.due r q (record_bytes r ++ (flat_map record_bytes rs ++ more)) a.was_due b.was_due fit.0 git.0 (flat_map record_bytes rs ++ more, refl) (flat_map record_bytes qs ++ less, bytes) in
-      let next : Passed a.next ≡ Passed b.next = sym a.passes ∙ ap (admitted kind setup p) one ∙ b.passes in
+      let next : ◌≡◌ {A = Result Progress Flaw} (Ok a.next) (Ok b.next) = sym a.passes ∙ ap (admitted kind setup p) one ∙ b.passes in
       let on : b.next ≡ a.next = cc in
       let rest = append_cancel_left (record_bytes r) (flat_map record_bytes rs ++ more) (flat_map record_bytes qs ++ less) (bytes ∙ ap (λ x. record_bytes x ++ (flat_map record_bytes qs ++ less)) (sym one)) in
       put one (beginnings a.next e f rs qs more less a.onto (ap (λ n. fold (onward kind setup) (Some n) qs) (sym on) ∙ b.onto) fit.1 git.1 rest)
@@ -75,7 +74,7 @@ module _ (kind : Meaning) (setup : Setup) where
   -- REFUSALS
 
   -- the rest of refused bytes starts with no record that leads on
-  pub no_further : (p q : Progress) (at : ℕ) (rest : List ℕ) (why : Refusal) (r : Record) → Reason kind setup p at rest why → is_due p.due r ≡ true → admitted kind setup p r ≡ Passed q → Fitting r → StartsWith rest r → ⊥
+  pub no_further : (p q : Progress) (at : ℕ) (rest : List ℕ) (why : Refusal) (r : Record) → Reason kind setup p at rest why → is_due p.due r ≡ true → admitted kind setup p r ≡ Ok q → Fitting r → StartsWith rest r → ⊥
   no_further p q at rest why r (no_record n) is so fits s = n.none r is fits s
   no_further p q at rest why r (other_table o) is so fits s =
       let head = RecordKinds.Header o.header in
@@ -117,7 +116,7 @@ no_header intervals actions sections h = by_tests (ltb 0 intervals) (ltb 0 actio
     by_tests false false false e = let z : ◌≡◌ {A = ℕ} 0 1 = cc in omega arith
 
 module _ (kind : Meaning) (setup : Setup) where
-  after_one : (p q : Progress) (r : Record) (d : Due) → is_due d r ≡ true → admitted kind setup p r ≡ Passed q → q.due ≡ Due.Header → ⊥
+  after_one : (p q : Progress) (r : Record) (d : Due) → is_due d r ≡ true → admitted kind setup p r ≡ Ok q → q.due ≡ Due.Header → ⊥
   after_one p q r Due.Header is so h = let t = header_on kind setup p q r is so in let e : Due.Section ≡ Due.Header = ap (λ x. x.due) (sym t.4) ∙ h in let z : ◌≡◌ {A = ℕ} 0 1 = cc in omega arith
   after_one p q r Due.Section is so h = let t = section_on kind setup p q r is so in let e : Due.Interval ≡ Due.Header = ap (λ x. x.due) (sym t.3) ∙ h in let z : ◌≡◌ {A = ℕ} 0 1 = cc in omega arith
   after_one p q r Due.Interval is so h = let t = interval_on kind setup p q r is so in no_header (p.intervals - 1) p.actions p.sections (ap (λ x. x.due) (sym t.3) ∙ h)

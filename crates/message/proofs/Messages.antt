@@ -1,5 +1,5 @@
 -- Whole messages: their records are read to the end just where they are lawful. Assumes nothing.
-use Rattle.std.proofs.Common.{◌≡◌, ℕ, zero, suc, ◌<◌, ◌≤◌, true, cond, ◌&&◌, eqb, ltb, leb, List, [], ◌∷◌, ◌++◌, map, length, Some, fold, sum_by, count_by, sym, refl, ap, ◌∙◌, arith}
+use Rattle.std.proofs.Common.{◌≡◌, ℕ, zero, suc, ◌<◌, ◌≤◌, true, cond, ◌&&◌, eqb, ltb, leb, List, [], ◌∷◌, ◌++◌, map, length, Some, Ok, Err, fold, sum_by, count_by, sym, refl, ap, ◌∙◌, arith}
 use Rattle.std.specs.List.{flat_map, AllByRecursion}
 use Rattle.std.proofs.ByRecursion.{All-map, All-weaker}
 use Rattle.std.proofs.lemmas.List.Sums.{sum_by-append, sum_by-cons}
@@ -9,7 +9,7 @@ use Rattle.action.specs.declared.setups.Setup.{Setup}
 use Rattle.kind.specs.Meaning.{Meaning}
 use Rattle.message.specs.declared.reading.Due.{Due}
 use Rattle.message.specs.declared.reading.Progress.{Progress}
-use Rattle.message.specs.declared.reading.Verdict.TheVariants.{Passed, Foreign, Broken}
+use Rattle.message.specs.declared.faults.Flaw.TheVariants.{Foreign, Broken}
 use Rattle.message.specs.declared.records.Header.{Header}
 use Rattle.message.specs.declared.records.Interval.{Interval}
 use Rattle.message.specs.declared.records.Record.{Record}
@@ -122,7 +122,7 @@ module _ (kind : Meaning) (setup : Setup) where
       let ss = m.sections in
       let p = after_header start h in
       let passes = header_passes h (record { of_group = l.of_group; of_kind = l.of_kind; some = l.some; few = l.few; sent = l.sent }) in
-      let first = onward_passes kind setup start p (RecordKinds.Header h) refl (cond-true (named kind setup h) (cond (lawful_header setup h) (Passed p) Broken) Foreign passes.0 ∙ cond-true (lawful_header setup h) (Passed p) Broken passes.1) in
+      let first = onward_passes kind setup start p (RecordKinds.Header h) refl (cond-true (named kind setup h) (cond (lawful_header setup h) (Ok p) (Err Broken)) (Err Foreign) passes.0 ∙ cond-true (lawful_header setup h) (Ok p) (Err Broken) passes.1) in
       let due = sym (cond-true (ltb 0 (length ss)) Due.Section Due.End (lt-ltb 0 (length ss) l.some)) in
       let more = sections_read kind setup ss p refl due l.sections (All-weaker (LawfulSection kind setup) (λ s. 0 ≤ s.article) (λ s k. omega arith) ss l.sections) l.rising in
       (more.0, ap (λ o. fold (onward kind setup) o (flat_map section_records ss)) first ∙ more.1, more.2)

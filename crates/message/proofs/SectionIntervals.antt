@@ -1,5 +1,5 @@
 -- A section's intervals: the test of each after those before it, and what all of them keep. Assumes nothing.
-use Rattle.std.proofs.Common.{◌≡◌, ℕ, zero, suc, ◌+◌, ◌<◌, ◌≤◌, true, cond, ◌&&◌, ltb, leb, ◌⊎◌, List, [], ◌∷◌, map, length, get_or, set, fold, sym, refl, ap, ◌∙◌, subst, inl, inr, arith}
+use Rattle.std.proofs.Common.{◌≡◌, Ok, Err, ℕ, zero, suc, ◌+◌, ◌<◌, ◌≤◌, true, cond, ◌&&◌, ltb, leb, ◌⊎◌, List, [], ◌∷◌, map, length, get_or, set, fold, sym, refl, ap, ◌∙◌, subst, inl, inr, arith}
 use Rattle.std.specs.List.{ContainsAt as Has, AllByRecursion}
 use Rattle.std.proofs.ByRecursion.{All-map, All-weaker}
 use Rattle.std.proofs.lemmas.List.{get_or-set_other, get_or-set_same, length-set, set_past}
@@ -9,7 +9,7 @@ use Rattle.kind.specs.Meaning.{Meaning}
 use Rattle.message.specs.declared.reading.Due.{Due}
 use Rattle.message.specs.declared.reading.Progress.{Progress}
 use Rattle.message.specs.declared.reading.Span.{Span}
-use Rattle.message.specs.declared.reading.Verdict.TheVariants.{Passed, Broken}
+use Rattle.message.specs.declared.faults.Flaw.TheVariants.{Broken}
 use Rattle.message.specs.declared.records.Interval.{Interval}
 use Rattle.message.specs.declared.records.Record.TheVariants as RecordKinds
 use Rattle.message.specs.Lawful.{LawfulInterval, Rising}
@@ -32,7 +32,7 @@ module _ (kind : Meaning) (setup : Setup) where
   pub intervals_stretch : Stretch kind setup RecordKinds.Interval (lawful_interval setup) after_interval (λ p. p.intervals) IntervalsReady
   intervals_stretch = record {
     takes = λ p q r so some is passes. interval_on kind setup p q r (ap (λ d. is_due d r) (sym (due_interval p so some)) ∙ is) passes;
-    leads = λ p i so some test. onward_passes kind setup p (after_interval p i) (RecordKinds.Interval i) (ap (λ d. is_due d (RecordKinds.Interval i)) (due_interval p so some)) (cond-true (lawful_interval setup p i) (Passed (after_interval p i)) Broken test);
+    leads = λ p i so some test. onward_passes kind setup p (after_interval p i) (RecordKinds.Interval i) (ap (λ d. is_due d (RecordKinds.Interval i)) (due_interval p so some)) (cond-true (lawful_interval setup p i) (Ok (after_interval p i)) (Err Broken) test);
     goes_on = λ p so some end. let z : Due.Interval ≡ Due.End = sym (due_interval p so some) ∙ end in let e : ◌≡◌ {A = ℕ} 0 1 = cc in omega arith;
     fewer = λ p i. refl;
     ready = λ p i so. refl;

@@ -1,5 +1,5 @@
 -- One section: its records lead on just where it is lawful. Assumes nothing.
-use Rattle.std.proofs.Common.{◌≡◌, ℕ, ◌+◌, ◌-◌, ◌<◌, ◌≤◌, true, cond, ◌&&◌, ltb, leb, ◌⊎◌, List, [], ◌∷◌, ◌++◌, map, length, get_or, Some, fold, sym, refl, ap, ◌∙◌, subst, inl, inr, arith}
+use Rattle.std.proofs.Common.{◌≡◌, ℕ, ◌+◌, ◌-◌, ◌<◌, ◌≤◌, true, cond, ◌&&◌, ltb, leb, ◌⊎◌, List, [], ◌∷◌, ◌++◌, map, length, get_or, Some, Ok, Err, fold, sym, refl, ap, ◌∙◌, subst, inl, inr, arith}
 use Rattle.std.specs.List.{AllByRecursion}
 use Rattle.std.proofs.ByRecursion.{All-weaker}
 use Rattle.std.proofs.lemmas.List.{append_assoc, get_or_past, get_or-replicate}
@@ -11,7 +11,7 @@ use Rattle.action.proofs.Sequence.{leads_later}
 use Rattle.kind.specs.Meaning.{Meaning}
 use Rattle.message.specs.declared.reading.Due.{Due}
 use Rattle.message.specs.declared.reading.Progress.{Progress}
-use Rattle.message.specs.declared.reading.Verdict.TheVariants.{Passed, Broken}
+use Rattle.message.specs.declared.faults.Flaw.TheVariants.{Broken}
 use Rattle.message.specs.declared.records.Interval.{Interval}
 use Rattle.message.specs.declared.records.SectionHead.{SectionHead}
 use Rattle.message.specs.declared.records.Record.{Record}
@@ -198,7 +198,7 @@ module _ (kind : Meaning) (setup : Setup) (p : Progress) (is : p.due ≡ Due.Sec
       let head = head_of s in
       let middle = after_intervals p head s.intervals in
       let told : HeadTold setup p head = record { least = least; listed = l.listed; some = l.some; few = l.few } in
-      let first = onward_passes kind setup p (after_section p head) (RecordKinds.Section head) (ap (λ d. is_due d (RecordKinds.Section head)) is) (cond-true (lawful_section setup p head) (Passed (after_section p head)) Broken (head_passes setup p head told)) in
+      let first = onward_passes kind setup p (after_section p head) (RecordKinds.Section head) (ap (λ d. is_due d (RecordKinds.Section head)) is) (cond-true (lawful_section setup p head) (Ok (after_section p head)) (Err Broken) (head_passes setup p head told)) in
       let intervals = intervals_pass setup (after_section p head) s.intervals l.intervals (All-weaker (LawfulInterval setup) (λ i. 0 ≤ i.site) (λ i h. omega arith) s.intervals l.intervals) l.rising in
       let article = folded_keeps (λ q. q.article) after_interval (λ _ _. refl) (after_section p head) s.intervals in
       let last = folded_keeps (λ q. q.last) after_interval (λ _ _. refl) (after_section p head) s.intervals in

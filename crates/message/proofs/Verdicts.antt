@@ -40,7 +40,7 @@ module _ (kind : Meaning) (setup : Setup) (bytes : List ℕ) (fits : (i : ℕ) �
     p,
     drop at bytes,
     record { lawful = b.lawful; fitting = b.fitting; front = b.front },
-    subst (λ (n : ℕ). Reason kind setup p n (drop at bytes) (shown e)) b.far (reason kind setup p at (drop at bytes) (shown e) (λ i. subst (λ (n : ℕ). n < 256) (sym (get_or-drop at bytes i 0)) (fits (at + i))) h),
+    subst (λ (n : ℕ). Reason kind setup p n (drop at bytes) (shown e)) b.far (reason kind setup p at (drop at bytes) e (λ i. subst (λ (n : ℕ). n < 256) (sym (get_or-drop at bytes i 0)) (fits (at + i))) h),
   )
 
   pub scan_longest : (r : Result ℕ ReaderFault) → Scanned kind setup bytes r → Longest kind setup bytes r

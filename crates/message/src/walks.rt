@@ -1,7 +1,7 @@
 ghost use Rattle.std.specs.Prelude.{◌≡◌, ◌+◌, ◌≤◌, length, drop};
 ghost use Rattle.message.specs.Walks.{action_in, article_after, interval_in, record_in, sender_in, size_in};
 
-use crate::decodes::{Decoded, decode};
+use crate::decodes::decode;
 use crate::reading::Due;
 use crate::records::{Interval, Record};
 use action::Action;
@@ -30,10 +30,7 @@ fn first_record(bytes: &[u8]) -> Option<Record>
         [b'A', ..] => Due::Action,
         _ => return None,
     };
-    match decode(due, bytes) {
-        Decoded::Whole(record) => Some(record),
-        _ => None,
-    }
+    decode(due, bytes).ok().flatten()
 }
 
 // Who sent the message; 0 where the bytes begin with no header.
