@@ -5,8 +5,6 @@ use Rattle.action.specs.declared.orders.Action.{Action}
 use Rattle.message.specs.declared.records.Interval.{Interval}
 use Rattle.message.specs.declared.records.Record.{Record}
 use Rattle.message.specs.declared.records.Record.TheVariants as RecordKinds
-use Rattle.row.specs.declared.intervals.Test.{Test}
-use Rattle.row.specs.declared.intervals.Test.TheVariants.{Behind, Ahead}
 use Rattle.row.specs.declared.rows.Row.{Row}
 use Rattle.row.specs.Entries.{entry_in, raised}
 
@@ -30,10 +28,6 @@ is_behind_in rows own a i = nat_lt (entry_in rows a own i.site) i.from
 -- the interval says more of the own site than the site has done
 abbrev pub is_ahead_in : List Row → ℕ → ℕ → Interval → Bool
 is_ahead_in rows own a i = i.site == own && nat_lt (entry_in rows a own own) i.to
-
-abbrev pub tested : Test → List Row → ℕ → ℕ → Interval → Bool
-tested Behind = is_behind_in
-tested Ahead = is_ahead_in
 
 -- this table and the sender have what the interval carries
 abbrev pub raised_by : ℕ → ℕ → List (List ℕ) → ℕ × Interval → List (List ℕ)

@@ -1,45 +1,13 @@
-// The passes of archiving: how far every site is known to be, and the history's actions up to there.
-ghost use Rattle.std.specs.Prelude.{◌≡◌, ◌<◌, not, length, fold, filter};
-ghost use Rattle.std.specs.List.{remove, range_with_len};
+// The pass of archiving over the history.
+ghost use Rattle.std.specs.Prelude.{◌≡◌, ◌<◌, not, length, filter};
+ghost use Rattle.std.specs.List.{remove};
 ghost use Rattle.kind.specs.Working.{working};
-ghost use Rattle.row.specs.Passes.{is_up_to, least_in, least_of_in};
+ghost use Rattle.row.specs.Passes.{is_up_to};
 
-use crate::intervals::entry;
 use crate::places::{place, take_out};
-use crate::rows::Row;
-use action::{Action, Setup};
+use action::Action;
 use history::History;
 use kind::Kind;
-
-// The least of a time and the article's known entries of site `z`.
-fn least_of(rows: &[Row], sites: u8, article: u8, time: u32, z: u8) -> u32
-    ensures { result ≡ least_of_in rows.now sites article time z }
-{
-    let mut least = time;
-    for q in 0..sites {
-        least = least.min(entry(rows, article, z, q));
-    }
-    least
-}
-
-// The least of a time and the article's known entries of all sites.
-fn least_of_all(rows: &[Row], sites: u8, article: u8, time: u32) -> u32
-    ensures { result ≡ fold (least_of_in rows.now sites article) time (range_with_len 0 sites) }
-{
-    let mut least = time;
-    for z in 0..sites {
-        least = least_of(rows, sites, article, least, z);
-    }
-    least
-}
-
-// The least of all the article's known entries, over all pairs of sites.
-pub fn least_entry(rows: &[Row], setup: Setup, article: u8) -> u32
-    ensures { result ≡ least_in rows.now setup.sites article }
-{
-    let first = entry(rows, article, 0, 0);
-    least_of_all(rows, setup.sites, article, first)
-}
 
 // Is the action on the article, and not later than the time?
 fn is_up_to(article: u8, time: u32, action: &Action) -> bool
