@@ -1,4 +1,3 @@
-pub mod Appended
 pub mod Kept
 pub mod Newness
 pub mod RowLaws

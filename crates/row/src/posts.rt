@@ -5,10 +5,9 @@ ghost use Rattle.row.specs.declared.rows.Row.{Row as ARow};
 ghost use Rattle.row.specs.Rows.{changed_row, on_row, raised_row, restarted, stepped_row};
 
 use crate::ledgers::Ledger;
-use crate::places::place;
 use crate::rows::Row;
 use action::Action;
-use history::History;
+use history::{History, actions};
 use kind::Kind;
 
 impl Ledger {
@@ -56,12 +55,13 @@ impl Ledger {
     }
 
     // Sets every kept figure back to its base.
+    #[tactic(auto, using(std::proofs::lemmas::List::Edits::map_over_more))]
     fn restart(&mut self)
         ensures rows { self.new.rows ≡ map restarted self.old.rows }
         ensures fixed { self.new.setup ≡ self.old.setup }
     {
         for row in &mut self.rows {
-            row.kept = row.base;
+            row.restart();
         }
     }
 
@@ -71,8 +71,7 @@ impl Ledger {
         ensures fixed { self.new.setup ≡ self.old.setup }
     {
         self.restart();
-        for i in 0..history.count() {
-            let action = place(history, i);
+        for action in actions(history) {
             self.step::<K>(&action);
         }
     }

@@ -1,6 +1,6 @@
 ghost use Rattle.std.specs.Prelude.{◌≡◌};
 ghost use Rattle.row.specs.Entries.{at};
-ghost use Rattle.row.specs.Rows.{raised_row, stepped_row};
+ghost use Rattle.row.specs.Rows.{raised_row, restarted, stepped_row};
 
 use action::Action;
 use kind::Kind;
@@ -45,5 +45,12 @@ impl Row {
         ensures { self.new ≡ stepped_row K.means.steps action.now self.old }
     {
         self.kept = K::step(self.kept, action.operation, action.amount);
+    }
+
+    // Sets the kept figure back to the base.
+    pub(crate) fn restart(&mut self)
+        ensures { self.new ≡ restarted self.old }
+    {
+        self.kept = self.base;
     }
 }
