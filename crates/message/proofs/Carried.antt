@@ -14,7 +14,7 @@ use Rattle.message.specs.declared.records.Record.TheVariants as RecordKinds
 use Rattle.message.specs.Format.{Message, Section, carried, records, section_records, stretches}
 use Rattle.message.specs.Lawful.{Carries, LawfulAction, LawfulInterval, LawfulMessage, LawfulSection, Rising}
 use Rattle.message.specs.Walks.{actions_of, first_of, intervals_of}
-use Rattle.message.proofs.Intervals.{all_from_map}
+use Rattle.message.proofs.SectionIntervals.{all_from_map}
 
 -- LISTS IN A ROW
 

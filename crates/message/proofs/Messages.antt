@@ -19,7 +19,7 @@ use Rattle.message.specs.Format.{Message, Section, header_of, records, section_r
 use Rattle.message.specs.Lawful.{LawfulMessage, LawfulSection, Rising, action_count}
 use Rattle.message.specs.Progress.{after_header, due_after, lawful_header, named, start}
 use Rattle.message.specs.Reading.{is_action, is_due, onward, reading}
-use Rattle.message.proofs.Intervals.{all_from_map}
+use Rattle.message.proofs.SectionIntervals.{all_from_map}
 use Rattle.message.proofs.Onward.{first_on, header_on, some_same}
 use Rattle.message.proofs.Sections.{after_all, due_next, next_article, read_section, section_reads, sections_left}
 use Rattle.message.proofs.Steps.{onward_passes}

@@ -21,8 +21,8 @@ use Rattle.message.specs.Format.{Section, head_of, section_records}
 use Rattle.message.specs.Lawful.{LawfulAction, LawfulInterval, LawfulSection}
 use Rattle.message.specs.Progress.{after_action, after_interval, after_section, carries, due_after, lawful_action, lawful_interval, lawful_section, no_action, no_span, no_spans}
 use Rattle.message.specs.Reading.{is_due, onward}
-use Rattle.message.proofs.Actions.{ActionsReady, Fair, actions_pass, actions_stretch, actions_told}
-use Rattle.message.proofs.Intervals.{CarriedBy, IntervalsReady, all_from_map, carried_by, intervals_pass, intervals_stretch, intervals_told, span_set}
+use Rattle.message.proofs.SectionActions.{ActionsReady, Fair, actions_pass, actions_stretch, actions_told}
+use Rattle.message.proofs.SectionIntervals.{CarriedBy, IntervalsReady, all_from_map, carried_by, intervals_pass, intervals_stretch, intervals_told, span_set}
 use Rattle.message.proofs.Onward.{first_on, section_on, some_same}
 use Rattle.message.proofs.Steps.{onward_passes}
 use Rattle.message.proofs.Stretches.{Run, folded_append, folded_keeps, left_after, ready_after, split, through}

@@ -4,6 +4,7 @@ pub mod Decoding
 pub mod Faults
 pub mod Fields
 pub mod Format
+pub mod Found
 pub mod Lawful
 pub mod Progress
 pub mod Reading

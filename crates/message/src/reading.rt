@@ -2,7 +2,7 @@ ghost use Rattle.std.specs.Prelude.{◌≡◌};
 ghost use Rattle.message.specs.Progress.{start};
 
 use crate::faults::ReaderFault;
-use crate::records::Record;
+use crate::records::{Interval, Record};
 use action::Action;
 
 // Which record the reader expects next.
@@ -63,6 +63,14 @@ pub enum Look {
 pub struct Found {
     pub offset: usize,
     pub record: Record,
+}
+
+// An interval, where in the message it stands, and its section's article.
+#[derive(Clone, Copy)]
+pub struct Stretch {
+    pub offset: usize,
+    pub article: u8,
+    pub interval: Interval,
 }
 
 impl Progress {

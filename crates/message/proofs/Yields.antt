@@ -1,0 +1,96 @@
+-- What the iterators over a message yield. Assumes nothing.
+use Rattle.std.proofs.Common.{◌≡◌, ℕ, zero, suc, ◌+◌, ◌≤◌, Bool, true, false, cond, List, [], ◌∷◌, map, length, drop, Some, None, Option, refl, ap, ◌∙◌, arith}
+use Rattle.std.specs.Bool.{⊤}
+use Rattle.std.specs.Iterator.{MakesProgress, YieldsFirst, item_count}
+use Rattle.std.specs.Iterator.Runs.{YieldsInOrder}
+use Rattle.std.specs.List.{find}
+use Rattle.std.specs.Option.{option_map}
+use Rattle.std.proofs.iter.runs.Sources.{as_is, from_front}
+use Rattle.message.specs.declared.reading.Stretch.{Stretch}
+use Rattle.message.specs.declared.records.Interval.{Interval}
+use Rattle.message.specs.declared.records.Record.{Record}
+use Rattle.message.specs.declared.records.Record.TheVariants as RecordKinds
+use Rattle.message.specs.Format.{record_bytes}
+use Rattle.message.specs.Found.{actions_among, found_from, placed, stretches_among, stretches_in, told}
+use Rattle.message.specs.Walks.{actions_of, first_of, intervals_of, next_records, record_in, records_by, records_in}
+use Rattle.message.proofs.Walking.{records_end, records_from}
+
+-- ITERATORS THAT ARE SEEN AS WHAT THEY HAVE LEFT
+
+module _ {A : Type 0} where
+  pub takes_runs : YieldsInOrder (YieldsFirst {A = A} (λ left. left)) (λ left. left)
+  takes_runs p s = as_is p p.from (from_front (YieldsFirst {A = A} (λ left. left)) (λ x. x) (λ left. left) (λ s t h. ap length h.0) (λ s x t h. h) p s)
+
+  pub takes_goes : (s t : List A) (x : A) → s ≡ x ∷ t → MakesProgress {S = List A} (λ _. ⊤) (item_count (λ left. left)) s (Some x) t
+  takes_goes s t x e = record { on = λ _. (tt, tt, omega (arith, ap length e)); keeps = tt; rests = λ _. tt }
+
+-- RECORDS, WITH THEIR PLACES
+
+module _ (bytes : List ℕ) (at : ℕ) where
+  pub found_next : (r : Record) → record_in (drop at bytes) ≡ Some r → found_from bytes at ≡ record { offset = at; «record» = r } ∷ found_from bytes (at + length (record_bytes r))
+  found_next r h = ap (placed at) (records_from bytes at r h)
+
+  pub found_end : record_in (drop at bytes) ≡ None → found_from bytes at ≡ []
+  found_end h = ap (placed at) (records_end (drop at bytes) h)
+
+pub actions_placed : (at : ℕ) (rs : List Record) → actions_among (placed at rs) ≡ actions_of rs
+actions_placed at [] = refl
+actions_placed at (RecordKinds.Header _ ∷ rs) = actions_placed (at + 6) rs
+actions_placed at (RecordKinds.Section _ ∷ rs) = actions_placed (at + 5) rs
+actions_placed at (RecordKinds.Interval _ ∷ rs) = actions_placed (at + 10) rs
+actions_placed at (RecordKinds.Action x ∷ rs) = ap (λ xs. x ∷ xs) (actions_placed (at + 16) rs)
+
+pub told_placed : (at a : ℕ) (rs : List Record) → map told (stretches_among a (placed at rs)) ≡ intervals_of a rs
+told_placed at a [] = refl
+told_placed at a (RecordKinds.Header _ ∷ rs) = told_placed (at + 6) a rs
+told_placed at a (RecordKinds.Section s ∷ rs) = told_placed (at + 5) s.article rs
+told_placed at a (RecordKinds.Interval i ∷ rs) = ap (λ is. (a, i) ∷ is) (told_placed (at + 10) a rs)
+told_placed at a (RecordKinds.Action _ ∷ rs) = told_placed (at + 16) a rs
+
+-- the first stretch that passes a test
+pub first_placed : (test : ℕ → Interval → Bool) (at a : ℕ) (rs : List Record) → option_map (λ s. s.offset) (find (λ s. test s.article s.interval) (stretches_among a (placed at rs))) ≡ first_of test at a rs
+first_placed test at a [] = refl
+first_placed test at a (RecordKinds.Header _ ∷ rs) = first_placed test (at + 6) a rs
+first_placed test at a (RecordKinds.Section s ∷ rs) = first_placed test (at + 5) s.article rs
+first_placed test at a (RecordKinds.Action _ ∷ rs) = first_placed test (at + 16) a rs
+first_placed test at a (RecordKinds.Interval i ∷ rs) = by_test (test a i) _ _ (first_placed test (at + 10) a rs)
+  where
+    by_test : (b : Bool) (o : Option Stretch) (n : Option ℕ) → option_map (λ s. s.offset) o ≡ n → option_map (λ s. s.offset) (cond b (Some (record { offset = at; article = a; interval = i })) o) ≡ cond b (Some at) n
+    by_test true o n e = refl
+    by_test false o n e = e
+
+-- the place that `find` over a message's intervals answers, in the form in which std's lemma on `find` says what it found
+pub first_in : (test : ℕ → Interval → Bool) (bytes : List ℕ) (r : Option Stretch) → option_map (λ s. s) r ≡ find (λ s. test s.article s.interval) (stretches_in bytes) → option_map (λ s. s.offset) r ≡ first_of test 0 0 (records_in bytes)
+first_in test bytes None e = ap (option_map (λ s. s.offset)) e ∙ first_placed test 0 0 (records_in bytes)
+first_in test bytes (Some s) e = ap (option_map (λ s. s.offset)) e ∙ first_placed test 0 0 (records_in bytes)
+
+-- HOW MANY THERE ARE
+
+few_by : (turns : ℕ) (bs : List ℕ) → length (records_by turns bs) ≤ turns
+few_by zero bs = omega arith
+few_by (suc turns) bs = go (few_by turns) (record_in bs)
+  where
+    go : ((l : List ℕ) → length (records_by turns l) ≤ turns) → (o : Option Record) → length (next_records (records_by turns) bs o) ≤ suc turns
+    go less None = omega arith
+    go less (Some r) = omega (arith, less (drop (length (record_bytes r)) bs))
+
+pub few_records : (bs : List ℕ) → length (records_in bs) ≤ length bs
+few_records bs = few_by (length bs) bs
+
+pub few_placed : (at : ℕ) (rs : List Record) → length (placed at rs) ≡ length rs
+few_placed at [] = refl
+few_placed at (r ∷ rs) = ap suc (few_placed (at + length (record_bytes r)) rs)
+
+pub few_actions : (rs : List Record) → length (actions_of rs) ≤ length rs
+few_actions [] = omega arith
+few_actions (RecordKinds.Header _ ∷ rs) = omega (arith, few_actions rs)
+few_actions (RecordKinds.Section _ ∷ rs) = omega (arith, few_actions rs)
+few_actions (RecordKinds.Interval _ ∷ rs) = omega (arith, few_actions rs)
+few_actions (RecordKinds.Action _ ∷ rs) = omega (arith, few_actions rs)
+
+pub few_stretches : (at a : ℕ) (rs : List Record) → length (stretches_among a (placed at rs)) ≤ length rs
+few_stretches at a [] = omega arith
+few_stretches at a (RecordKinds.Header _ ∷ rs) = omega (arith, few_stretches (at + 6) a rs)
+few_stretches at a (RecordKinds.Section s ∷ rs) = omega (arith, few_stretches (at + 5) s.article rs)
+few_stretches at a (RecordKinds.Interval _ ∷ rs) = omega (arith, few_stretches (at + 10) a rs)
+few_stretches at a (RecordKinds.Action _ ∷ rs) = omega (arith, few_stretches (at + 16) a rs)

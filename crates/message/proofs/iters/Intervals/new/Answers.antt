@@ -1,0 +1,16 @@
+use Rattle.std.proofs.Common.{map, length, ap, ◌∙◌, arith}
+use Rattle.message.specs.Found.{stretches_among, told}
+use Rattle.message.specs.Walks.{records_in}
+use Rattle.message.proofs.Yields.{few_records, few_stretches, takes_runs, told_placed}
+use Rattle.message.proofs.iters.Intervals.new.Goals as goal
+
+pub returns-clause-told : goal.returns-clause-told
+returns-clause-told c = ap (λ l. map told (stretches_among 0 l)) c.new.ensures.left ∙ told_placed 0 0 (records_in c.args.bytes.now)
+
+pub returns-clause-few : goal.returns-clause-few
+returns-clause-few c =
+    let bytes = c.args.bytes.now in
+    omega (arith, ap (λ l. length (stretches_among 0 l)) c.new.ensures.left, few_stretches 0 0 (records_in bytes), few_records bytes)
+
+pub returns-clause-runs : goal.returns-clause-runs
+returns-clause-runs c = takes_runs

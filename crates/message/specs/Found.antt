@@ -1,0 +1,42 @@
+-- The records that bytes hold, each with its place, and the intervals and actions among them. Assumes nothing.
+use Rattle.std.specs.Prelude.{ℕ, ◌+◌, List, [], ◌∷◌, length, drop, None, Some, Option}
+use Rattle.std.specs.List.{cons_option, filter_map}
+use Rattle.action.specs.declared.orders.Action.{Action}
+use Rattle.message.specs.declared.reading.Found.{Found}
+use Rattle.message.specs.declared.reading.Stretch.{Stretch}
+use Rattle.message.specs.declared.records.Interval.{Interval}
+use Rattle.message.specs.declared.records.Record.{Record}
+use Rattle.message.specs.Format.{record_bytes}
+use Rattle.message.specs.Walks.{action_in, article_after, interval_in, records_in}
+
+-- records one after another, the first at place at
+abbrev pub placed : ℕ → List Record → List Found
+placed at [] = []
+placed at (r ∷ rs) = record { offset = at; «record» = r } ∷ placed (at + length (record_bytes r)) rs
+
+-- what the bytes hold from place at on
+abbrev pub found_from : List ℕ → ℕ → List Found
+found_from bytes at = placed at (records_in (drop at bytes))
+
+abbrev pub found_in : List ℕ → List Found
+found_in bytes = placed 0 (records_in bytes)
+
+abbrev pub stretch_of : ℕ → ℕ → Option Interval → Option Stretch
+stretch_of at a None = None
+stretch_of at a (Some i) = Some (record { offset = at; article = a; interval = i })
+
+-- the intervals among them, where article a is the one that the first is about
+abbrev pub stretches_among : ℕ → List Found → List Stretch
+stretches_among a [] = []
+stretches_among a (f ∷ fs) = cons_option (stretch_of f.offset a (interval_in f.«record»)) (stretches_among (article_after a f.«record») fs)
+
+abbrev pub stretches_in : List ℕ → List Stretch
+stretches_in bytes = stretches_among 0 (found_in bytes)
+
+-- an interval with its article, without its place
+abbrev pub told : Stretch → ℕ × Interval
+told s = (s.article, s.interval)
+
+-- the actions among them
+abbrev pub actions_among : List Found → List Action
+actions_among = filter_map (λ f. action_in f.«record»)

@@ -1,0 +1,148 @@
+// A message's records, one after another, in the order of its bytes. For a message that has been checked.
+ghost use Rattle.std.specs.Prelude.{◌≡◌, ◌≤◌, List, length, map};
+ghost use Rattle.std.specs.Iterator.{YieldsFirst, item_count};
+ghost use Rattle.std.specs.Iterator.Runs.{YieldsInOrder};
+ghost use Rattle.action.specs.declared.orders.Action.{Action};
+ghost use Rattle.message.specs.declared.reading.Found.{Found};
+ghost use Rattle.message.specs.declared.reading.Stretch.{Stretch};
+ghost use Rattle.message.specs.Found.{actions_among, found_from, found_in, stretches_among, stretches_in, told};
+ghost use Rattle.message.specs.Walks.{actions_of, intervals_of, records_in};
+
+use crate::reading::{Found, Stretch};
+use crate::walks::record_at;
+use action::Action;
+use std::marker::Model;
+
+// The records that are left, each with its place.
+#[derive(Drop)]
+pub struct Records<'a> {
+    bytes: &'a [u8],
+    at: usize,
+}
+
+impl<'a> Model for Records<'a> {
+    ghost Value = { List Found };
+
+    ghost view = { λ r. found_from r.bytes.now r.at };
+
+    ghost invariant = { λ r. r.at ≤ length r.bytes.now };
+}
+
+impl<'a> Records<'a> {
+    // All records of the message, up to where none begins.
+    pub fn new(bytes: &'a [u8]) -> Records<'a>
+        ensures left { result ≡ found_in bytes.now }
+        ensures few { length result ≤ length bytes.now }
+        ensures runs { YieldsInOrder (YieldsFirst {A = Found} (λ left. left)) (λ left. left) }
+    {
+        Records { bytes, at: 0 }
+    }
+}
+
+impl<'a> Iterator for Records<'a> {
+    type Item = Found;
+
+    ghost next_gives = { YieldsFirst (λ left. left) };
+
+    ghost remaining = { item_count (λ left. left) };
+
+    fn next(&mut self) -> Option<Found> {
+        let offset = self.at;
+        let record = record_at(self.bytes, offset)?;
+        self.at = offset + record.size();
+        Some(Found { offset, record })
+    }
+}
+
+// The intervals that are left.
+#[derive(Drop)]
+pub struct Intervals<'a> {
+    records: Records<'a>,
+    article: u8,
+}
+
+impl<'a> Model for Intervals<'a> {
+    ghost Value = { List Stretch };
+
+    ghost view = { λ i. stretches_among i.article i.records };
+}
+
+impl<'a> Intervals<'a> {
+    // All intervals of the message, each with its section's article.
+    pub fn new(bytes: &'a [u8]) -> Intervals<'a>
+        ensures left { result ≡ stretches_in bytes.now }
+        ensures told { map told result ≡ intervals_of 0 (records_in bytes.now) }
+        ensures few { length result ≤ length bytes.now }
+        ensures runs { YieldsInOrder (YieldsFirst {A = Stretch} (λ left. left)) (λ left. left) }
+    {
+        Intervals {
+            records: Records::new(bytes),
+            article: 0,
+        }
+    }
+}
+
+impl<'a> Iterator for Intervals<'a> {
+    type Item = Stretch;
+
+    ghost next_gives = { YieldsFirst (λ left. left) };
+
+    ghost remaining = { item_count (λ left. left) };
+
+    fn next(&mut self) -> Option<Stretch> {
+        while let Some(Found { offset, record }) = self.records.next() {
+            let article = self.article;
+            self.article = record.article_after(article);
+            if let Some(interval) = record.interval() {
+                return Some(Stretch {
+                    offset,
+                    article,
+                    interval,
+                });
+            }
+        }
+        None
+    }
+}
+
+// The actions that are left.
+#[derive(Drop)]
+pub struct Actions<'a> {
+    records: Records<'a>,
+}
+
+impl<'a> Model for Actions<'a> {
+    ghost Value = { List Action };
+
+    ghost view = { λ a. actions_among a.records };
+}
+
+impl<'a> Actions<'a> {
+    // All actions of the message.
+    pub fn new(bytes: &'a [u8]) -> Actions<'a>
+        ensures left { result ≡ actions_of (records_in bytes.now) }
+        ensures few { length result ≤ length bytes.now }
+        ensures runs { YieldsInOrder (YieldsFirst {A = Action} (λ left. left)) (λ left. left) }
+    {
+        Actions {
+            records: Records::new(bytes),
+        }
+    }
+}
+
+impl<'a> Iterator for Actions<'a> {
+    type Item = Action;
+
+    ghost next_gives = { YieldsFirst (λ left. left) };
+
+    ghost remaining = { item_count (λ left. left) };
+
+    fn next(&mut self) -> Option<Action> {
+        while let Some(found) = self.records.next() {
+            if let Some(action) = found.record.action() {
+                return Some(action);
+            }
+        }
+        None
+    }
+}
