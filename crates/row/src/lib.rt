@@ -10,6 +10,7 @@ mod makes;
 mod places;
 mod posts;
 mod rows;
+mod takes;
 
 pub use archives::move_actions;
 pub use ledgers::Ledger;
