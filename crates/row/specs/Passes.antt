@@ -14,13 +14,6 @@ use Rattle.row.specs.Entries.{entry_in, raised}
 abbrev pub is_new_in : List Row → ℕ → Action → Bool
 is_new_in rows own x = nat_lt (entry_in rows x.article own x.coordinator) x.time
 
--- the action that the record is, where it is one and new
-abbrev pub new_in : List Row → ℕ → Record → Option Action
-new_in rows own (RecordKinds.Header _) = None
-new_in rows own (RecordKinds.Section _) = None
-new_in rows own (RecordKinds.Interval _) = None
-new_in rows own (RecordKinds.Action x) = cond (is_new_in rows own x) (Some x) None
-
 -- the interval begins above what this table has reached
 abbrev pub is_behind_in : List Row → ℕ → ℕ → Interval → Bool
 is_behind_in rows own a i = nat_lt (entry_in rows a own i.site) i.from

@@ -28,13 +28,10 @@ pub(crate) fn take_out<H: History>(history: &mut H, i: usize)
 fn place_of<H: History>(history: &H, action: &Action) -> usize
     ensures { result ≡ place_of (H.items history.now) action.now }
 {
-    let mut end = history.count();
-    while end > 0 {
-        let last = place(history, end - 1);
-        if last.precedes(action) {
-            return end;
+    for i in (0..history.count()).rev() {
+        if place(history, i).precedes(action) {
+            return i + 1;
         }
-        end -= 1;
     }
     0
 }

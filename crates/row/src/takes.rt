@@ -41,9 +41,9 @@ impl Ledger {
         ensures rows { self.new.rows ≡ fold (on_row (stepped_row K.means.steps)) self.old.rows (filter (is_new_in self.old.rows self.old.setup.own) (actions_of (records_in bytes.now))) }
         ensures fixed { self.new.setup ≡ self.old.setup }
     {
-        for action in Actions::new(bytes) {
-            if self.is_new(&action) {
-                self.step::<K>(&action);
+        for carried in Actions::new(bytes) {
+            if self.is_new(&carried) {
+                self.step::<K>(&carried);
             }
         }
     }
