@@ -1,10 +1,8 @@
 -- What the passes over a message and over the history look for, by rows. Assumes nothing.
-use Rattle.std.specs.Prelude.{ℕ, min, Bool, cond, ◌&&◌, List, Some, None, fold, Option, ◌==◌, nat_le, nat_lt}
+use Rattle.std.specs.Prelude.{ℕ, min, Bool, ◌&&◌, List, fold, ◌==◌, nat_le, nat_lt}
 use Rattle.std.specs.List.{range_with_len}
 use Rattle.action.specs.declared.orders.Action.{Action}
 use Rattle.message.specs.declared.records.Interval.{Interval}
-use Rattle.message.specs.declared.records.Record.{Record}
-use Rattle.message.specs.declared.records.Record.TheVariants as RecordKinds
 use Rattle.row.specs.declared.rows.Row.{Row}
 use Rattle.row.specs.Entries.{entry_in, raised}
 

@@ -1,4 +1,4 @@
-use Rattle.std.proofs.Common.{◌≡◌, get_or, fold, sym, ap, ◌∙◌, rules}
+use Rattle.std.proofs.Common.{◌≡◌, get_or, sym, ap, ◌∙◌, rules}
 use Rattle.std.proofs.lemmas.List.Sums.{fold_more}
 use Rattle.message.specs.Progress.{no_action}
 use Rattle.row.specs.Rows.{on_row, raised_row}
