@@ -30,11 +30,11 @@ written_in None = []
 -- the state and the history, of so many places, as one
 abbrev pub held : State → List Action → ℕ → View
 held s history capacity = record {
-  setup = s.setup;
+  setup = s.ledger.setup;
   clock = s.clock;
   is_open = is_some s.transaction;
   pending = written_in s.transaction;
-  rows = s.rows;
+  rows = s.ledger.rows;
   history = history;
   capacity = capacity;
 }

@@ -11,11 +11,10 @@ use crate::tables::Table;
 use crate::tickets::Ticket;
 use history::{History, HistoryFault};
 use kind::Kind;
-use row::{append, raise_rows, work_rows};
+use row::append;
 
 // Writes the transaction's message where there were writes and it fits, and answers its length.
 fn send<K: Kind>(state: &State, buffer: &mut [u8]) -> usize
-    requires { Sound K.means (bare state.now) }
     ensures length { result ≡ length (fitting (transaction_bytes K.means (bare state.now)) buffer.old) }
     ensures bytes { buffer.new ≡ overwritten buffer.old 0 (fitting (transaction_bytes K.means (bare state.now)) buffer.old) }
 {
@@ -38,10 +37,9 @@ fn post<K: Kind, H: History>(state: &mut State, history: &mut H)
     ensures { held state.new (H.items history.new) (H.room history.new) ≡ committed K.means (held state.old (H.items history.old) (H.room history.old)) }
 {
     let pending = written_in(&state.transaction);
-    let own = state.setup.own;
     append(history, pending);
-    raise_rows(&mut state.rows, own, pending);
-    work_rows::<K, H>(&mut state.rows, history, pending);
+    state.ledger.raise_posted(pending);
+    state.ledger.work::<K, H>(history, pending);
     state.clock += pending.len() as u32;
     state.transaction = None;
 }

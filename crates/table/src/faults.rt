@@ -68,7 +68,7 @@ impl From<TableFault> for Refusal {
             TableFault::Behind(place) => by_table(13, place),
             TableFault::Ahead(place) => by_table(14, place),
             TableFault::Short(needed) => by_table(15, needed),
-            TableFault::InReader(fault) => fault.refusal(),
+            TableFault::InReader(fault) => fault.into(),
             TableFault::InHistory(fault) => fault.into(),
         }
     }

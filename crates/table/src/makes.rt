@@ -7,7 +7,7 @@ use crate::tables::Table;
 use action::Setup;
 use history::History;
 use kind::Kind;
-use row::Row;
+use row::Ledger;
 use std::marker::PhantomData;
 
 // Takes every action out, the last one first.
@@ -27,18 +27,11 @@ impl<K: Kind, H: History> Table<K, H> {
         ensures sound { Sound K.means result }
     {
         empty(&mut history);
-        let start = K::start();
-        let row = Row {
-            base: start,
-            kept: start,
-            known: [[0; 8]; 8],
-        };
         Table {
             state: State {
-                setup,
+                ledger: Ledger::new(setup, K::start()),
                 clock: 0,
                 transaction: None,
-                rows: [row; 64],
             },
             history,
             kind: PhantomData,

@@ -6,7 +6,7 @@ ghost use Rattle.message.specs.Format.{interval_bytes};
 ghost use Rattle.message.specs.Lawful.{LawfulMessage};
 ghost use Rattle.table.specs.Offers.{Offered, is_offered, offer_interval, offer_message};
 ghost use Rattle.table.specs.Sound.{Sound};
-ghost use Rattle.table.specs.View.{bare};
+ghost use Rattle.table.specs.View.{bare, held};
 
 use crate::emits::emit;
 use crate::faults::TableFault;
@@ -17,31 +17,41 @@ use history::{History, actions};
 use kind::Kind;
 use message::{Header, Interval, Record, SectionHead};
 
-// What is asked for: an article's actions that a peer is not known to have.
+// What is asked for: the actions on an article that a peer is not known to have.
 #[derive(Clone, Copy)]
 struct Offer {
     peer: u8,
     article: u8,
-    ghost of_table: { (peer < 8) × (article < 64) },
 }
 
 impl Offer {
+    // What the offer says of a site.
+    fn interval(self, state: &State, site: u8) -> Interval
+        ensures { result ≡ offer_interval (bare state.now) self.peer self.article site }
+    {
+        let ledger = &state.ledger;
+        Interval {
+            site,
+            from: ledger.entry(self.article, self.peer, site),
+            to: ledger.entry(self.article, ledger.setup.own, site),
+        }
+    }
+
     // Does the offer carry this action?
     fn carries(self, state: &State, action: &Action) -> bool
         ensures { result ≡ is_offered (bare state.now) self.peer self.article action.now }
     {
-        if action.article != self.article || action.coordinator >= state.setup.sites {
+        if action.article != self.article || action.coordinator >= state.ledger.setup.sites {
             return false;
         }
-        let known = &state.rows[self.article as usize].known;
-        let q = action.coordinator as usize;
-        known[self.peer as usize][q] < action.time
-            && action.time <= known[state.setup.own as usize][q]
+        let interval = self.interval(state, action.coordinator);
+        interval.from < action.time && action.time <= interval.to
     }
 
     // How many actions the offer carries.
     fn count<H: History>(self, state: &State, history: &H) -> usize
-        ensures { result ≡ length (filter (is_offered (bare state.now) self.peer self.article) (H.items history.now)) }
+        ensures value { result ≡ length (filter (is_offered (bare state.now) self.peer self.article) (H.items history.now)) }
+        ensures few { result ≤ length (H.items history.now) }
     {
         actions(history)
             .filter(|action| self.carries(state, action))
@@ -50,20 +60,13 @@ impl Offer {
 
     // Puts the offer's intervals, one for each site.
     fn put_intervals(self, state: &State, buffer: &mut [u8], start: usize) -> usize
-        requires { start + 10 * state.now.setup.sites ≤ length buffer.old }
-        ensures end { result ≡ start + 10 * state.now.setup.sites }
-        ensures bytes { buffer.new ≡ overwritten buffer.old start (flat_map interval_bytes (map (offer_interval (bare state.now) self.peer self.article) (range_with_len 0 state.now.setup.sites))) }
+        requires { start + 10 * state.now.ledger.setup.sites ≤ length buffer.old }
+        ensures end { result ≡ start + 10 * state.now.ledger.setup.sites }
+        ensures bytes { buffer.new ≡ overwritten buffer.old start (flat_map interval_bytes (map (offer_interval (bare state.now) self.peer self.article) (range_with_len 0 state.now.ledger.setup.sites))) }
     {
-        let setup = state.setup;
-        let known = &state.rows[self.article as usize].known;
         let mut at = start;
-        for q in 0..setup.sites {
-            let interval = Interval {
-                site: q,
-                from: known[self.peer as usize][q as usize],
-                to: known[setup.own as usize][q as usize],
-            };
-            at = emit(buffer, at, Record::Interval(interval));
+        for q in 0..state.ledger.setup.sites {
+            at = emit(buffer, at, Record::Interval(self.interval(state, q)));
         }
         at
     }
@@ -88,24 +91,24 @@ impl Offer {
         }
         at
     }
-}
 
-impl<K: Kind, H: History> Table<K, H> {
-    // Writes, for a peer and an article, all that the peer is not known to have: an interval for
-    // each site and the history's actions in them. Answers the length.
-    pub fn offer(&self, peer: u8, article: u8, buffer: &mut [u8]) -> Result<usize, TableFault>
-        ensures does { Offered K.means self.now peer article buffer.old result buffer.new }
-        ensures lawful { article < self.now.setup.articles → LawfulMessage K.means self.now.setup (offer_message K.means self.now peer article) }
+    // Writes the offer, and answers its length.
+    fn write<K: Kind, H: History>(
+        self,
+        state: &State,
+        history: &H,
+        buffer: &mut [u8],
+    ) -> Result<usize, TableFault>
+        ensures { Offered K.means (held state.now (H.items history.now) (H.room history.now)) self.peer self.article buffer.old result buffer.new }
     {
-        let setup = self.state.setup;
-        if article >= setup.articles {
+        let setup = state.ledger.setup;
+        if self.article >= setup.articles {
             return Err(TableFault::NoArticle);
         }
-        if peer >= setup.sites {
+        if self.peer >= setup.sites {
             return Err(TableFault::NoSite);
         }
-        let offer = Offer { peer, article };
-        let carried = offer.count(&self.state, &self.history);
+        let carried = self.count(state, history);
         let needed = 11 + 10 * setup.sites as usize + 16 * carried;
         if needed > buffer.len() {
             return Err(TableFault::Short(needed));
@@ -117,13 +120,26 @@ impl<K: Kind, H: History> Table<K, H> {
             sections: 1,
         };
         let head = SectionHead {
-            article,
+            article: self.article,
             intervals: setup.sites,
             actions: carried as u16,
         };
         let at = emit(buffer, 0, Record::Header(header));
         let at = emit(buffer, at, Record::Section(head));
-        let at = offer.put_intervals(&self.state, buffer, at);
-        Ok(offer.put_actions(&self.state, &self.history, buffer, at))
+        let at = self.put_intervals(state, buffer, at);
+        Ok(self.put_actions(state, history, buffer, at))
+    }
+}
+
+impl<K: Kind, H: History> Table<K, H> {
+    // Writes, for a peer and an article, all that the peer is not known to have: an interval for
+    // each site and the history's actions in them. Answers the length.
+    pub fn offer(&self, peer: u8, article: u8, buffer: &mut [u8]) -> Result<usize, TableFault>
+        ensures does { Offered K.means self.now peer article buffer.old result buffer.new }
+        ensures sound { Sound K.means self.now }
+        ensures lawful { article < self.now.setup.articles → LawfulMessage K.means self.now.setup (offer_message K.means self.now peer article) }
+    {
+        let offer = Offer { peer, article };
+        offer.write::<K, H>(&self.state, &self.history, buffer)
     }
 }

@@ -23,7 +23,8 @@ pub(crate) struct Size {
 
 // How many of the actions are on the article.
 fn count_on(actions: &[Action], article: u8) -> usize
-    ensures { result ≡ length (on article actions.now) }
+    ensures value { result ≡ length (on article actions.now) }
+    ensures few { result ≤ length actions.now }
 {
     actions
         .iter()
@@ -59,14 +60,13 @@ fn put_on(actions: &[Action], article: u8, buffer: &mut [u8], start: usize) -> u
 impl State {
     // Puts the section of an article that was written.
     fn put_section(&self, article: u8, buffer: &mut [u8], start: usize) -> usize
-        requires few { length (bare self.now).pending ≤ 16 }
-        requires room { start + length (section_format (transaction_section (bare self.now) article)) ≤ length buffer.old }
+        requires { start + length (section_format (transaction_section (bare self.now) article)) ≤ length buffer.old }
         ensures end { result ≡ start + length (section_format (transaction_section (bare self.now) article)) }
         ensures bytes { buffer.new ≡ overwritten buffer.old start (section_format (transaction_section (bare self.now) article)) }
     {
         let pending = written_in(&self.transaction);
-        let own = self.setup.own;
-        let before = self.rows[article as usize].known[own as usize][own as usize];
+        let own = self.ledger.setup.own;
+        let before = self.ledger.entry(article, own, own);
         let head = SectionHead {
             article,
             intervals: 1,
@@ -84,7 +84,6 @@ impl State {
 
     // How many sections the message has, and their length.
     pub(crate) fn measure(&self) -> Size
-        requires { length (bare self.now).pending ≤ 16 }
         ensures sections { result.sections ≡ length (written_articles (bare self.now)) }
         ensures few { result.sections ≤ 64 }
         ensures bytes { result.length ≡ length (sections_bytes (bare self.now)) }
@@ -94,7 +93,7 @@ impl State {
             sections: 0,
             length: 0,
         };
-        for article in 0..self.setup.articles {
+        for article in 0..self.ledger.setup.articles {
             let count = count_on(pending, article);
             if count > 0 {
                 size.sections += 1;
@@ -106,12 +105,11 @@ impl State {
 
     // Puts the sections, in the order of their articles.
     fn put_sections(&self, buffer: &mut [u8], start: usize)
-        requires few { length (bare self.now).pending ≤ 16 }
-        requires room { start + length (sections_bytes (bare self.now)) ≤ length buffer.old }
+        requires { start + length (sections_bytes (bare self.now)) ≤ length buffer.old }
         ensures { buffer.new ≡ overwritten buffer.old start (sections_bytes (bare self.now)) }
     {
         let mut at = start;
-        for article in 0..self.setup.articles {
+        for article in 0..self.ledger.setup.articles {
             if count_on(written_in(&self.transaction), article) > 0 {
                 at = self.put_section(article, buffer, at);
             }
@@ -120,12 +118,11 @@ impl State {
 
     // Puts the message, of so many sections.
     pub(crate) fn put_transaction<K: Kind>(&self, sections: usize, buffer: &mut [u8])
-        requires few { length (bare self.now).pending ≤ 16 }
         requires sections { (sections ≡ length (written_articles (bare self.now))) × (sections ≤ 64) }
         requires room { length (format (transaction_message K.means (bare self.now))) ≤ length buffer.old }
         ensures { buffer.new ≡ overwritten buffer.old 0 (format (transaction_message K.means (bare self.now))) }
     {
-        let setup = self.setup;
+        let setup = self.ledger.setup;
         let header = Header {
             group: setup.group,
             kind: K::number(),

@@ -1,9 +1,9 @@
-ghost use Rattle.std.specs.Prelude.{◌≡◌};
+ghost use Rattle.std.specs.Prelude.{◌≡◌, ◌≤◌, length};
 ghost use Rattle.table.specs.View.{written_in};
 
-use action::{Action, MOST_WRITES, Setup};
+use action::{Action, MOST_WRITES};
 use arrayvec::ArrayVec;
-use row::Row;
+use row::Ledger;
 
 // What an open transaction has written so far.
 pub(crate) type Pending = ArrayVec<Action, MOST_WRITES>;
@@ -11,15 +11,15 @@ pub(crate) type Pending = ArrayVec<Action, MOST_WRITES>;
 // What a table keeps besides its history.
 #[derive(Drop)]
 pub struct State {
-    pub setup: Setup,
+    pub ledger: Ledger,
     pub clock: u32,
     pub transaction: Option<Pending>,
-    pub rows: [Row; 64],
 }
 
 // What the transaction has written, nothing where none is open.
 pub(crate) fn written_in(transaction: &Option<Pending>) -> &[Action]
-    ensures { result.now ≡ written_in transaction.now }
+    ensures value { result.now ≡ written_in transaction.now }
+    ensures few { length result.now ≤ 16 }
 {
     match transaction {
         Some(pending) => pending.as_slice(),

@@ -22,9 +22,9 @@ impl<K: Kind, H: History> Table<K, H> {
         }
         self.state.transaction = Some(Pending::new());
         Ok(Ticket {
-            group: self.state.setup.group,
+            group: self.state.ledger.setup.group,
             kind: K::number(),
-            site: self.state.setup.own,
+            site: self.state.ledger.setup.own,
             clock: self.state.clock,
         })
     }
@@ -34,9 +34,9 @@ impl<K: Kind, H: History> Table<K, H> {
         ensures { result ≡ holds K.means self.now ticket.now }
     {
         self.state.transaction.is_some()
-            && ticket.group == self.state.setup.group
+            && ticket.group == self.state.ledger.setup.group
             && ticket.kind == K::number()
-            && ticket.site == self.state.setup.own
+            && ticket.site == self.state.ledger.setup.own
             && ticket.clock == self.state.clock
     }
 
@@ -54,7 +54,7 @@ impl<K: Kind, H: History> Table<K, H> {
         if !self.holds(ticket) {
             return Err(TableFault::NotItsTicket);
         }
-        if article >= self.state.setup.articles {
+        if article >= self.state.ledger.setup.articles {
             return Err(TableFault::NoArticle);
         }
         if !K::is_known(operation, amount) {
@@ -69,7 +69,7 @@ impl<K: Kind, H: History> Table<K, H> {
             return Err(TableFault::TooLate);
         }
         let action = Action {
-            coordinator: self.state.setup.own,
+            coordinator: self.state.ledger.setup.own,
             time: before + 1,
             transaction: self.state.clock + 1,
             article,
