@@ -16,9 +16,13 @@ fn settle<K: Kind, H: History>(state: &mut State, history: &mut H, article: u8) 
     ensures count { result ≡ length (olds (held state.old (H.items history.old) (H.room history.old)) article) }
     ensures after { held state.new (H.items history.new) (H.room history.new) ≡ archived K.means (held state.old (H.items history.old) (H.room history.old)) article }
 {
-    let time = state.ledger.least_entry(article);
-    let base = &mut state.ledger.rows[article as usize].base;
-    move_actions::<K, H>(base, history, article, time)
+    let ledger = &mut state.ledger;
+    let time = ledger.least_entry(article);
+    let at = article as usize;
+    let mut base = ledger.rows[at].base;
+    let gone = move_actions::<K, H>(&mut base, history, article, time);
+    ledger.rows[at].base = base;
+    gone
 }
 
 impl<K: Kind, H: History> Table<K, H> {

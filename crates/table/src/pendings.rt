@@ -108,9 +108,11 @@ impl State {
         requires { start + length (sections_bytes (bare self.now)) ≤ length buffer.old }
         ensures { buffer.new ≡ overwritten buffer.old start (sections_bytes (bare self.now)) }
     {
+        let pending = written_in(&self.transaction);
         let mut at = start;
         for article in 0..self.ledger.setup.articles {
-            if count_on(written_in(&self.transaction), article) > 0 {
+            let count = count_on(pending, article);
+            if count > 0 {
                 at = self.put_section(article, buffer, at);
             }
         }
