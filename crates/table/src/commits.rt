@@ -21,13 +21,12 @@ fn send<K: Kind>(state: &State, buffer: &mut [u8]) -> usize
     if written_in(&state.transaction).is_empty() {
         return 0;
     }
-    let size = state.measure();
-    let length = 6 + size.length;
-    if length > buffer.len() {
+    let size = state.measure::<K>();
+    if size.length > buffer.len() {
         return 0;
     }
     state.put_transaction::<K>(size.sections, buffer);
-    length
+    size.length
 }
 
 // Records the pending actions, and ends the transaction.
@@ -44,6 +43,30 @@ fn post<K: Kind, H: History>(state: &mut State, history: &mut H)
     state.transaction = None;
 }
 
+// Commits the transaction, or hands the ticket back and changes nothing.
+fn finish<K: Kind, H: History>(
+    state: &mut State,
+    history: &mut H,
+    ticket: Ticket,
+    buffer: &mut [u8],
+) -> Result<(usize, usize), (TableFault, Ticket)>
+    requires { Sound K.means (held state.old (H.items history.old) (H.room history.old)) }
+    ensures { Committed K.means (held state.old (H.items history.old) (H.room history.old)) ticket buffer.old result (held state.new (H.items history.new) (H.room history.new)) buffer.new }
+{
+    if !state.holds::<K>(&ticket) {
+        return Err((TableFault::NotItsTicket, ticket));
+    }
+    let writes = written_in(&state.transaction).len();
+    let capacity = history.capacity();
+    if history.count() + writes > capacity {
+        return Err((HistoryFault::Full(capacity).into(), ticket));
+    }
+    ticket.spend();
+    let length = send::<K>(state, buffer);
+    post::<K, H>(state, history);
+    Ok((writes, length))
+}
+
 impl<K: Kind, H: History> Table<K, H> {
     // Commits the open transaction and spends its ticket. Answers how many actions it had, and how
     // many bytes of a message it wrote.
@@ -56,17 +79,6 @@ impl<K: Kind, H: History> Table<K, H> {
         ensures sound { Sound K.means self.new }
         ensures lawful { 0 < length self.old.pending → LawfulMessage K.means self.old.setup (transaction_message K.means self.old) }
     {
-        if !self.holds(&ticket) {
-            return Err((TableFault::NotItsTicket, ticket));
-        }
-        let writes = written_in(&self.state.transaction).len();
-        let capacity = self.history.capacity();
-        if self.history.count() + writes > capacity {
-            return Err((HistoryFault::Full(capacity).into(), ticket));
-        }
-        ticket.spend();
-        let length = send::<K>(&self.state, buffer);
-        post::<K, H>(&mut self.state, &mut self.history);
-        Ok((writes, length))
+        finish::<K, H>(&mut self.state, &mut self.history, ticket, buffer)
     }
 }

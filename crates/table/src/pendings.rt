@@ -14,7 +14,7 @@ use action::Action;
 use kind::Kind;
 use message::{Header, Interval, Record, SectionHead};
 
-// How many sections a message has, and their length together.
+// How many sections a message has, and its length.
 #[derive(Clone, Copy)]
 pub(crate) struct Size {
     pub(crate) sections: usize,
@@ -82,16 +82,16 @@ impl State {
         put_on(pending, article, buffer, at)
     }
 
-    // How many sections the message has, and their length.
-    pub(crate) fn measure(&self) -> Size
+    // How many sections the message has, and its length.
+    pub(crate) fn measure<K: Kind>(&self) -> Size
         ensures sections { result.sections ≡ length (written_articles (bare self.now)) }
         ensures few { result.sections ≤ 64 }
-        ensures bytes { result.length ≡ length (sections_bytes (bare self.now)) }
+        ensures bytes { result.length ≡ length (format (transaction_message K.means (bare self.now))) }
     {
         let pending = written_in(&self.transaction);
         let mut size = Size {
             sections: 0,
-            length: 0,
+            length: 6,
         };
         for article in 0..self.ledger.setup.articles {
             let count = count_on(pending, article);

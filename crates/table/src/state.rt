@@ -1,8 +1,11 @@
 ghost use Rattle.std.specs.Prelude.{◌≡◌, ◌≤◌, length};
-ghost use Rattle.table.specs.View.{written_in};
+ghost use Rattle.table.specs.Transactions.{holds};
+ghost use Rattle.table.specs.View.{bare, written_in};
 
+use crate::tickets::Ticket;
 use action::{Action, MOST_WRITES};
 use arrayvec::ArrayVec;
+use kind::Kind;
 use row::Ledger;
 
 // What an open transaction has written so far.
@@ -24,5 +27,18 @@ pub(crate) fn written_in(transaction: &Option<Pending>) -> &[Action]
     match transaction {
         Some(pending) => pending.as_slice(),
         None => &[],
+    }
+}
+
+impl State {
+    // Is this the ticket of the open transaction?
+    pub(crate) fn holds<K: Kind>(&self, ticket: &Ticket) -> bool
+        ensures { result ≡ holds K.means (bare self.now) ticket.now }
+    {
+        self.transaction.is_some()
+            && ticket.group == self.ledger.setup.group
+            && ticket.kind == K::number()
+            && ticket.site == self.ledger.setup.own
+            && ticket.clock == self.clock
     }
 }

@@ -1,7 +1,7 @@
 // A transaction up to its commit: opening it, writing to it, and dropping it.
 ghost use Rattle.std.specs.Prelude.{◌≡◌};
 ghost use Rattle.table.specs.Sound.{Sound};
-ghost use Rattle.table.specs.Transactions.{Abandoned, Opened, Wrote, holds};
+ghost use Rattle.table.specs.Transactions.{Abandoned, Opened, Wrote};
 
 use crate::faults::TableFault;
 use crate::state::{Pending, written_in};
@@ -29,17 +29,6 @@ impl<K: Kind, H: History> Table<K, H> {
         })
     }
 
-    // Is this the ticket of the open transaction?
-    pub(crate) fn holds(&self, ticket: &Ticket) -> bool
-        ensures { result ≡ holds K.means self.now ticket.now }
-    {
-        self.state.transaction.is_some()
-            && ticket.group == self.state.ledger.setup.group
-            && ticket.kind == K::number()
-            && ticket.site == self.state.ledger.setup.own
-            && ticket.clock == self.state.clock
-    }
-
     // Adds a pending action, and answers the time that it will have.
     pub fn write(
         &mut self,
@@ -51,7 +40,7 @@ impl<K: Kind, H: History> Table<K, H> {
         ensures does { Wrote K.means self.old ticket.now article operation amount result self.new }
         ensures sound { Sound K.means self.new }
     {
-        if !self.holds(ticket) {
+        if !self.state.holds::<K>(ticket) {
             return Err(TableFault::NotItsTicket);
         }
         if article >= self.state.ledger.setup.articles {
@@ -88,7 +77,7 @@ impl<K: Kind, H: History> Table<K, H> {
         ensures does { Abandoned K.means self.old ticket result self.new }
         ensures sound { Sound K.means self.new }
     {
-        if !self.holds(&ticket) {
+        if !self.state.holds::<K>(&ticket) {
             return Err((TableFault::NotItsTicket, ticket));
         }
         ticket.spend();

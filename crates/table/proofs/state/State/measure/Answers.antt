@@ -1,4 +1,4 @@
-use Rattle.std.proofs.Common.{◌≡◌, ◌≤◌, true, false, length, ap, ◌∙◌, arith}
+use Rattle.std.proofs.Common.{◌≡◌, ◌+◌, ◌≤◌, true, false, length, sym, ap, ◌∙◌, arith}
 use Rattle.std.proofs.lemmas.List.{length-append, length_push}
 use Rattle.std.proofs.lemmas.Bool.{le-ltb, lt-ltb}
 use Rattle.kind.specs.Working.{on}
@@ -6,12 +6,12 @@ use Rattle.message.specs.Format.{section_format}
 use Rattle.table.specs.declared.pendings.Size.{Size}
 use Rattle.table.specs.Transactions.{is_written, transaction_section}
 use Rattle.table.specs.View.{bare}
-use Rattle.table.proofs.Sections.{below, below_more, below_same, length_transaction_section, wrote, wrote_more, wrote_same}
+use Rattle.table.proofs.Sections.{below, below_more, below_same, length_transaction, length_transaction_section, wrote, wrote_more, wrote_same}
 use Rattle.table.proofs.state.State.measure.Goals as goal
 use Rattle.table.proofs.state.State.measure.Goals.{then-count-gt0, else-count-gt0}
 
 pub loop-article-preserved : goal.loop-article-preserved
-loop-article-preserved c =
+loop-article-preserved g c =
     let v = bare c.args.self.now in
     let a = c.loop-article.article in
     let inv = c.loop-article.invariant in
@@ -38,3 +38,9 @@ loop-article-preserved c =
             omega (arith, long, inv.3, ap length (wrote_same v a is)),
           )
     ]
+
+pub returns-clause-bytes : goal.returns-clause-bytes
+returns-clause-bytes g c =
+    let v = bare c.args.self.now in
+    let done : c.loop-article.article ≡ v.setup.articles = omega arith in
+    c.loop-article.invariant.3 ∙ ap (λ k. 6 + length (wrote v k)) done ∙ sym (length_transaction v g.K.Kind.means)
