@@ -1,5 +1,4 @@
-ghost use Rattle.std.specs.Prelude.{◌≡◌, ◌≤◌, min, [], IfOk, vec_len, vec_capacity};
-ghost use Rattle.std.proofs.Common.{rules, arith};
+ghost use Rattle.std.specs.Prelude.{◌≡◌, ◌≤◌, min, [], length, IfOk, vec_capacity};
 
 use crate::faults::{HistoryFault, check_insert, check_place};
 use crate::interface::History;
@@ -11,7 +10,7 @@ use std::alloc::{AllocError, Global};
 pub struct Rack {
     actions: Vec<Action>,
     places: usize,
-    ghost within: { vec_len actions ≤ places },
+    ghost within: { length actions.items ≤ places },
     ghost held: { places ≤ vec_capacity actions },
     ghost few: { places ≤ 1024 },
 }
@@ -32,7 +31,7 @@ impl History for Rack {
 
     ghost room = { λ rack. rack.places };
 
-    ghost bounded = { first_of (Prim.search rules, Prim.grind (arith, Self.row.coded.inj)) };
+    ghost bounded = { λ rack. (rack.within, rack.few) };
 
     fn count(&self) -> usize {
         self.actions.len()

@@ -1,7 +1,6 @@
 ghost use Rattle.std.specs.Prelude.{◌≡◌, ◌*◌, ◌/◌, ◌<◌, ◌≤◌, min, [], length, drop, vec_len, slice_index_or};
 ghost use Rattle.std.specs.List.{insert, remove};
 ghost use Rattle.history.specs.Strips.{strip_items};
-ghost use Rattle.std.proofs.Common.{rules, arith};
 
 use crate::faults::{HistoryFault, check_insert, check_place};
 use crate::interface::History;
@@ -18,12 +17,14 @@ pub struct Strip {
     bytes: Vec<u8>,
     places: usize,
     used: usize,
-    ghost within: { used ≤ places },
+    ghost within: { length (strip_items used bytes.items) ≤ places },
     ghost whole: { places ≡ min (vec_len bytes / 16) 1024 },
+    ghost few: { places ≤ 1024 },
     // It holds at any bytes, and stands here so that each function has it at hand.
     ghost counted: { length (strip_items used bytes.items) ≡ used },
 }
 
+#[tactic(auto, using(crate::proofs::Places::strip_steps))]
 impl Strip {
     // An empty strip of as many places as the memory has room for, 1,024 at the most.
     pub fn new(memory: Vec<u8>) -> Strip
@@ -82,7 +83,7 @@ impl History for Strip {
 
     ghost room = { λ strip. strip.places };
 
-    ghost bounded = { first_of (Prim.search rules, Prim.grind (arith, Self.row.coded.inj)) };
+    ghost bounded = { λ strip. (strip.within, strip.few) };
 
     fn count(&self) -> usize {
         self.used
