@@ -1,5 +1,5 @@
 -- The first of several records, and what its kind tells. Assumes nothing.
-use Rattle.std.proofs.Common.{◌≡◌, ℕ, Bool, true, false, cond, List, [], ◌∷◌, Some, None, Ok, Err, Result, fold, sym, refl, ◌∙◌, arith}
+use Rattle.std.proofs.Common.{◌≡◌, Bool, true, false, cond, List, [], ◌∷◌, Some, None, Ok, Err, Result, fold, sym, refl, ◌∙◌}
 use Rattle.std.specs.Result.{result_ok}
 use Rattle.std.proofs.lemmas.Bool.{false≢true}
 use Rattle.action.specs.declared.orders.Action.{Action}
@@ -21,16 +21,16 @@ pub some_same : {X : Type 0} (x y : X) → Some x ≡ Some y → x ≡ y
 some_same x y h = cc
 
 pub not_none : {X : Type 0} (x : X) → None ≡ Some x → ⊥
-not_none x h = let z : ◌≡◌ {A = ℕ} 0 1 = cc in omega arith
+not_none x h = cc
 
 -- what a test that gates a progress tells
 passed : (b : Bool) (p q : Progress) → cond b (Ok p) (Err Broken) ≡ Ok q → (b ≡ true) × (p ≡ q)
 passed true p q h = (refl, cc)
-passed false p q h = absurd (let z : ◌≡◌ {A = ℕ} 0 1 = cc in omega arith)
+passed false p q h = cc
 
 passed_twice : (a b : Bool) (p q : Progress) → cond a (cond b (Ok p) (Err Broken)) (Err Foreign) ≡ Ok q → (a ≡ true) × (b ≡ true) × (p ≡ q)
 passed_twice true b p q h = let k = passed b p q h in (refl, k.0, k.1)
-passed_twice false b p q h = absurd (let z : ◌≡◌ {A = ℕ} 0 1 = cc in omega arith)
+passed_twice false b p q h = cc
 
 module _ (kind : Meaning) (setup : Setup) where
   -- nothing leads on from a refusal

@@ -80,7 +80,7 @@ module _ (bs : List ℕ) (bytes : (i : ℕ) → get_or bs i 0 < 256) where
 
   chosen : (b : Bool) (x : Record) (r : Record) → cond b (Ok (Some x)) (Err Cut) ≡ Ok (Some r) → (b ≡ true) × (x ≡ r)
   chosen true x r h = (refl, cc)
-  chosen false x r h = absurd (let z : ◌≡◌ {A = ℕ} 0 1 = cc in omega arith)
+  chosen false x r h = cc
 
   pub whole_back : (d : Due) (r : Record) → decoded d bs ≡ Ok (Some r) → Back d r
   whole_back Due.Header r h =
@@ -102,5 +102,5 @@ module _ (bs : List ℕ) (bytes : (i : ℕ) → get_or bs i 0 < 256) where
   whole_back Due.End r h = absurd (never (eqb (length bs) 0) h)
     where
       never : (b : Bool) → cond b (Ok None) (Err Trailing) ≡ Ok (Some r) → ⊥
-      never true e = let z : ◌≡◌ {A = ℕ} 0 1 = cc in omega arith
-      never false e = let z : ◌≡◌ {A = ℕ} 0 1 = cc in omega arith
+      never true e = cc
+      never false e = cc

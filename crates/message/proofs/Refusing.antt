@@ -28,12 +28,12 @@ use Rattle.message.proofs.Recoding.{whole_back}
 
 -- what a test between a record, or the end, and a flaw tells
 flawed : (b : Bool) (o : Option Record) (f g : Flaw) → cond b (Ok o) (Err f) ≡ Err g → (b ≡ false) × (f ≡ g)
-flawed true o f g h = absurd (let z : ◌≡◌ {A = ℕ} 0 1 = cc in omega arith)
+flawed true o f g h = cc
 flawed false o f g h = (refl, cc)
 
 flawless : (b : Bool) (o q : Option Record) (f : Flaw) → cond b (Ok o) (Err f) ≡ Ok q → (b ≡ true) × (o ≡ q)
 flawless true o q f h = (refl, cc)
-flawless false o q f h = absurd (let z : ◌≡◌ {A = ℕ} 0 1 = cc in omega arith)
+flawless false o q f h = cc
 
 module _ (bs : List ℕ) where
   pub finished_told : (d : Due) → decoded d bs ≡ Ok None → (d ≡ Due.End) × (bs ≡ [])
@@ -53,21 +53,21 @@ module _ (bs : List ℕ) where
 
   pub cut_told : (d : Due) → decoded d bs ≡ Err Cut → (d ≡ Due.End → ⊥) × ((r : Record) → is_due d r ≡ true → Fitting r → StartsWith bs r → ⊥)
   cut_told d h = (
-    λ is. let z : Trailing ≡ Cut = (flawed _ _ _ _ (ap (λ x. decoded x bs) (sym is) ∙ h)).1 in let n : ◌≡◌ {A = ℕ} 0 1 = cc in omega arith,
-    λ r was fits s. let z : ◌≡◌ {A = Result (Option Record) Flaw} (Ok (Some r)) (Err Cut) = sym (decoded_format s.0 d r was fits) ∙ ap (decoded d) (sym s.1) ∙ h in let n : ◌≡◌ {A = ℕ} 0 1 = cc in omega arith,
+    λ is. let z : Trailing ≡ Cut = (flawed _ _ _ _ (ap (λ x. decoded x bs) (sym is) ∙ h)).1 in cc,
+    λ r was fits s. let z : ◌≡◌ {A = Result (Option Record) Flaw} (Ok (Some r)) (Err Cut) = sym (decoded_format s.0 d r was fits) ∙ ap (decoded d) (sym s.1) ∙ h in cc,
   )
 
 -- WHAT THE RULES SAY
 
 -- what the tests of a header tell
 header_flawed : (a b : Bool) (p : Progress) (f : Flaw) → cond a (cond b (Ok p) (Err Broken)) (Err Foreign) ≡ Err f → ((a ≡ false) × (Foreign ≡ f)) ⊎ ((a ≡ true) × (Broken ≡ f))
-header_flawed true true p f h = absurd (let z : ◌≡◌ {A = ℕ} 0 1 = cc in omega arith)
+header_flawed true true p f h = cc
 header_flawed true false p f h = inr (refl, cc)
 header_flawed false b p f h = inl (refl, cc)
 
 -- and the test of any other record
 other_flawed : (b : Bool) (p : Progress) (f : Flaw) → cond b (Ok p) (Err Broken) ≡ Err f → Broken ≡ f
-other_flawed true p f h = absurd (let z : ◌≡◌ {A = ℕ} 0 1 = cc in omega arith)
+other_flawed true p f h = cc
 other_flawed false p f h = cc
 
 header_due : (d : Due) (h : Header) → is_due d (RecordKinds.Header h) ≡ true → d ≡ Due.Header
@@ -92,9 +92,9 @@ module _ (kind : Meaning) (setup : Setup) where
         (λ k. inl (k.1, (h, refl, header_due p.due h is, not_named h k.0)))
         (λ k. inr (k.1, λ g same. let e : h ≡ g = cc in named_told g (ap (named kind setup) (sym e) ∙ k.0)))
         (header_flawed (named kind setup h) (lawful_header setup h) (after_header p h) f so)
-    refused_told (RecordKinds.Section s) f is so = inr (other_flawed _ _ f so, λ h same. absurd (let z : ◌≡◌ {A = ℕ} 0 1 = cc in omega arith))
-    refused_told (RecordKinds.Interval i) f is so = inr (other_flawed _ _ f so, λ h same. absurd (let z : ◌≡◌ {A = ℕ} 0 1 = cc in omega arith))
-    refused_told (RecordKinds.Action x) f is so = inr (other_flawed _ _ f so, λ h same. absurd (let z : ◌≡◌ {A = ℕ} 0 1 = cc in omega arith))
+    refused_told (RecordKinds.Section s) f is so = inr (other_flawed _ _ f so, λ h same. cc)
+    refused_told (RecordKinds.Interval i) f is so = inr (other_flawed _ _ f so, λ h same. cc)
+    refused_told (RecordKinds.Action x) f is so = inr (other_flawed _ _ f so, λ h same. cc)
 
     -- a step that is refused has one of the four reasons
     pub reason : (at : ℕ) (rest : List ℕ) (why : ReaderFault) → ((i : ℕ) → get_or rest i 0 < 256) → step kind setup p at rest ≡ Err why → Reason kind setup p at rest (shown why)
@@ -104,7 +104,7 @@ module _ (kind : Meaning) (setup : Setup) where
         why_is f g is e = let same : why ≡ fault_at at g = cc in ap shown (same ∙ ap (fault_at at) (sym is))
 
         by_verdict : (r : Record) → decoded p.due rest ≡ Ok (Some r) → (v : Result Progress Flaw) → admitted kind setup p r ≡ v → judged at r v ≡ Err why → Reason kind setup p at rest (shown why)
-        by_verdict r is (Ok q) so e = absurd (let z : ◌≡◌ {A = ℕ} 0 1 = cc in omega arith)
+        by_verdict r is (Ok q) so e = cc
         by_verdict r is (Err f) so e =
             let back = whole_back rest bytes p.due r is in
             ⊎_elim
@@ -114,7 +114,7 @@ module _ (kind : Meaning) (setup : Setup) where
 
         by_decoded : (d : Result (Option Record) Flaw) → decoded p.due rest ≡ d → stepped kind setup p at d ≡ Err why → Reason kind setup p at rest (shown why)
         by_decoded (Ok (Some r)) is e = by_verdict r is (admitted kind setup p r) refl e
-        by_decoded (Ok None) is e = absurd (let z : ◌≡◌ {A = ℕ} 0 1 = cc in omega arith)
+        by_decoded (Ok None) is e = cc
         by_decoded (Err f) is e =
             ⊎_elim
             (λ k. let t = cut_told rest p.due (is ∙ ap Err (sym k)) in no_record (record { is = why_is Cut f k e; not_ended = t.0; none = t.1 }))
@@ -126,10 +126,10 @@ module _ (kind : Meaning) (setup : Setup) where
     ended_told at rest h = finished_told rest p.due (by_decoded (decoded p.due rest) h)
       where
         by_verdict : (r : Record) (v : Result Progress Flaw) → judged at r v ≡ Ok None → (◌≡◌ {A = Result (Option Record) Flaw} (Ok (Some r)) (Ok None))
-        by_verdict r (Ok q) e = absurd (let z : ◌≡◌ {A = ℕ} 0 1 = cc in omega arith)
-        by_verdict r (Err f) e = absurd (let z : ◌≡◌ {A = ℕ} 0 1 = cc in omega arith)
+        by_verdict r (Ok q) e = cc
+        by_verdict r (Err f) e = cc
 
         by_decoded : (d : Result (Option Record) Flaw) → stepped kind setup p at d ≡ Ok None → d ≡ Ok None
         by_decoded (Ok (Some r)) e = by_verdict r (admitted kind setup p r) e
         by_decoded (Ok None) e = refl
-        by_decoded (Err f) e = absurd (let z : ◌≡◌ {A = ℕ} 0 1 = cc in omega arith)
+        by_decoded (Err f) e = cc

@@ -1,5 +1,5 @@
 -- One record more. Assumes nothing.
-use Rattle.std.proofs.Common.{◌≡◌, ℕ, ◌+◌, ◌<◌, ◌≤◌, Bool, true, cond, List, [], ◌∷◌, ◌++◌, length, get_or, drop, Some, None, Ok, Err, Option, Result, count_by, sym, refl, ap, ◌∙◌, subst, arith}
+use Rattle.std.proofs.Common.{◌≡◌, ℕ, ◌+◌, ◌<◌, ◌≤◌, Bool, true, false, cond, List, [], ◌∷◌, ◌++◌, length, get_or, drop, Some, None, Ok, Err, Option, Result, count_by, sym, refl, ap, ◌∙◌, subst, arith}
 use Rattle.std.specs.List.{flat_map}
 use Rattle.std.specs.Result.{result_ok}
 use Rattle.std.proofs.ByRecursion.{All-push}
@@ -30,9 +30,9 @@ found_record kind setup p q at r (Ok (Some x)) h = by_verdict (admitted kind set
         let same : x ≡ r = ap (λ t. t.0) both in
         let next : s ≡ q = ap (λ t. t.1) both in
         (ap (λ y. Ok (Some y)) same, ap (admitted kind setup p) (sym same) ∙ is ∙ ap Ok next)
-    by_verdict (Err f) is e = absurd (let z : ◌≡◌ {A = ℕ} 0 1 = cc in omega arith)
-found_record kind setup p q at r (Ok None) h = absurd (let z : ◌≡◌ {A = ℕ} 0 1 = cc in omega arith)
-found_record kind setup p q at r (Err f) h = absurd (let z : ◌≡◌ {A = ℕ} 0 1 = cc in omega arith)
+    by_verdict (Err f) is e = cc
+found_record kind setup p q at r (Ok None) h = cc
+found_record kind setup p q at r (Err f) h = cc
 
 pub onward_passes : (kind : Meaning) (setup : Setup) (p q : Progress) (r : Record) → is_due p.due r ≡ true → admitted kind setup p r ≡ Ok q → onward kind setup (Some p) r ≡ Some q
 onward_passes kind setup p q r is passed = ap (λ b. cond b (result_ok (admitted kind setup p r)) None) is ∙ ap result_ok passed
@@ -62,6 +62,17 @@ module _ (kind : Meaning) (setup : Setup) (bytes : List ℕ) (fits : (i : ℕ) �
         let more = begun_more at p q f.«record» b here in
         subst (λ (n : ℕ). (c : Begun kind setup bytes n q) × (c.records ≡ b.records ++ (f.«record» ∷ []))) (sym h.2) (more, refl)
 
+    -- and of how many actions there were so far
+    pub count_more : (at to : ℕ) (p q : Progress) (f : Found) (n : ℕ) → (b : Begun kind setup bytes at p) × (n ≡ count_by is_action b.records) → Next kind setup₁ p at bytes₁ (Ok (Some f)) q to → (t : Bool) → t ≡ is_action f.«record» → (c : Begun kind setup bytes to q) × (cond t (n + 1) n ≡ count_by is_action c.records)
+    count_more at to p q f n (b, so) h t is =
+        let more = read_more at to p q f b h in
+        let one : count_by is_action more.0.records ≡ count_by is_action b.records + cond t 1 0 = ap (count_by is_action) more.1 ∙ sum_by_push (λ x. cond (is_action x) 1 0) b.records f.«record» ∙ ap (λ u. count_by is_action b.records + cond u 1 0) (sym is) in
+        (more.0, counts t n _ _ so one)
+      where
+        counts : (t : Bool) (n k l : ℕ) → n ≡ k → l ≡ k + cond t 1 0 → cond t (n + 1) n ≡ l
+        counts true n k l so one = omega arith
+        counts false n k l so one = omega arith
+
     pub read_all : (at to : ℕ) (p q : Progress) → Next kind setup₁ p at bytes₁ (Ok None) q to → step kind setup p at (drop at bytes) ≡ Ok None
     read_all at to p q h = (λ i. step kind (sym same-setup i) p at (drop at (sym same_bytes i))) ∙ h.0
 
@@ -70,6 +81,3 @@ record_size (RecordKinds.Header h) = omega arith
 record_size (RecordKinds.Section s) = omega arith
 record_size (RecordKinds.Interval i) = omega arith
 record_size (RecordKinds.Action a) = omega arith
-
-pub counted_more : (rs qs : List Record) (r : Record) (b : Bool) → qs ≡ rs ++ (r ∷ []) → b ≡ is_action r → count_by is_action qs ≡ count_by is_action rs + cond b 1 0
-counted_more rs qs r b more is = ap (count_by is_action) more ∙ sum_by_push (λ x. cond (is_action x) 1 0) rs r ∙ ap (λ t. count_by is_action rs + cond t 1 0) (sym is)

@@ -9,10 +9,6 @@ use Rattle.message.specs.Progress.{admitted}
 use Rattle.message.specs.Reading.{is_due, onward}
 use Rattle.message.proofs.Onward.{first_on, some_same}
 
-pub folded_append : {A B : Type 0} (f : B → A → B) (b : B) (xs ys : List A) → fold f b (xs ++ ys) ≡ fold f (fold f b xs) ys
-folded_append f b [] ys = refl
-folded_append f b (x ∷ xs) ys = folded_append f (f b x) xs ys
-
 -- what no step changes
 pub folded_keeps : {A B C : Type 0} (f : B → C) (step : B → A → B) → ((b : B) (a : A) → f (step b a) ≡ f b) → (b : B) (xs : List A) → f (fold step b xs) ≡ f b
 folded_keeps f step keeps b [] = refl

@@ -55,7 +55,7 @@ module _ (kind : Meaning) (setup : Setup) (bytes : List ℕ) (fits : (i : ℕ) �
 -- nothing is refused where the end is due and no bytes are left
 none_refused : (kind : Meaning) (setup : Setup) (p : Progress) (at : ℕ) (rest : List ℕ) (why : Refusal) → p.due ≡ Due.End → rest ≡ [] → Reason kind setup p at rest why → ⊥
 none_refused kind setup p at rest why end none (no_record n) = n.not_ended end
-none_refused kind setup p at rest why end none (other_table o) = let e : Due.Header ≡ Due.End = sym o.first ∙ end in let z : ◌≡◌ {A = ℕ} 0 1 = cc in omega arith
+none_refused kind setup p at rest why end none (other_table o) = let e : Due.Header ≡ Due.End = sym o.first ∙ end in cc
 none_refused kind setup p at rest why end none (rule_broken b) = false≢true (ap (λ d. is_due d b.broken) (sym end) ∙ b.was_due)
 none_refused kind setup p at rest why end none (bytes_follow f) = omega (arith, f.more, ap length none)
 

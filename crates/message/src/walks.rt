@@ -12,10 +12,7 @@ pub fn record_at(bytes: &[u8], at: usize) -> Option<Record>
     ensures value { result ≡ record_in (drop at bytes.now) }
     ensures fits { at ≤ length bytes.now → at + size_in result ≤ length bytes.now }
 {
-    if at >= bytes.len() {
-        return None;
-    }
-    first_record(&bytes[at..])
+    first_record(bytes.get(at..)?)
 }
 
 // The record that the bytes begin with.
