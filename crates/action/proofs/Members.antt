@@ -2,7 +2,8 @@
 -- Assumes nothing.
 use Rattle.std.proofs.Common.{◌≡◌, ℕ, zero, suc, ◌<◌, Bool, true, false, cond, ◌⊎◌, List, [], ◌∷◌, ◌++◌, length, filter, sym, refl, ap, ◌∙◌, subst, inl, inr, ⊎_elim, arith}
 use Rattle.std.specs.List.{HoldsAt, ContainsAt as Has, AllByRecursion}
-use Rattle.std.proofs.ByRecursion.{all-has, all_has_itself, all_kept_by, All-weaker, has_append_left, has_append_right, kept_by_passes}
+use Rattle.std.proofs.ByRecursion.{all-has, all_has_itself, all_kept_by, All-weaker, kept_by_passes}
+pub use Rattle.std.proofs.ByRecursion.{has_append_cases}
 
 module _ {X : Type 0} where
   pub has_none : (x : X) → Has [] x → ⊥
@@ -23,16 +24,6 @@ module _ {X : Type 0} where
 
   pub all_from_has : (P : X → Type 0) (xs : List X) → ((x : X) → Has xs x → P x) → AllByRecursion P xs
   all_from_has P xs each = All-weaker (Has xs) P each xs (all_has_itself xs)
-
-  pub has_append : (xs ys : List X) (x : X) → Has xs x ⊎ Has ys x → Has (xs ++ ys) x
-  has_append xs ys x = ⊎_elim (has_append_left xs ys x) (has_append_right xs ys x)
-
-  pub has_append_cases : (xs ys : List X) (x : X) → Has (xs ++ ys) x → Has xs x ⊎ Has ys x
-  has_append_cases [] ys x h = inr h
-  has_append_cases (z ∷ zs) ys x h = ⊎_elim
-      (λ same. inl (subst (Has (z ∷ zs)) same (has_first z zs)))
-      (λ later. ⊎_elim (λ k. inl (has_later z zs x k)) (λ k. inr k) (has_append_cases zs ys x later))
-      (has_cons_cases z (zs ++ ys) x h)
 
   -- what holds of both parts together holds of each
   pub all_append_parts : (P : X → Type 0) (xs ys : List X) → AllByRecursion P (xs ++ ys) → AllByRecursion P xs × AllByRecursion P ys

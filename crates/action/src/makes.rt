@@ -1,6 +1,7 @@
 ghost use Rattle.std.specs.Prelude.{◌≡◌};
 ghost use Rattle.action.specs.Lawful.{Made, by_table};
 
+use crate::limits::{MOST_ARTICLES, MOST_SITES};
 use crate::refusals::{Layer, Refusal};
 use crate::setups::{Setup, UnlawfulSetup};
 
@@ -8,25 +9,32 @@ impl Setup {
     pub fn new(group: u32, sites: u32, own: u32, articles: u32) -> Result<Setup, UnlawfulSetup>
         ensures { Made group sites own articles result }
     {
-        if group < 1 || group > 65535 || sites < 2 || sites > 8 {
+        let (Ok(group), Ok(sites), Ok(own), Ok(articles)) = (
+            u16::try_from(group),
+            u8::try_from(sites),
+            u8::try_from(own),
+            u8::try_from(articles),
+        ) else {
             return Err(UnlawfulSetup);
-        }
-        if own >= sites || articles < 1 || articles > 64 {
+        };
+        let lawful_sites = (2..=MOST_SITES).contains(&usize::from(sites));
+        let lawful_articles = (1..=MOST_ARTICLES).contains(&usize::from(articles));
+        if group < 1 || !lawful_sites || own >= sites || !lawful_articles {
             return Err(UnlawfulSetup);
         }
         Ok(Setup {
-            group: group as u16,
-            sites: sites as u8,
-            own: own as u8,
-            articles: articles as u8,
+            group,
+            sites,
+            own,
+            articles,
         })
     }
 }
 
-impl UnlawfulSetup {
-    pub fn refusal(&self) -> Refusal
-        ensures { result ≡ by_table 1 0 }
-    {
+impl From<UnlawfulSetup> for Refusal {
+    ghost from_gives = { λ e r. r ≡ by_table 1 0 };
+
+    fn from(_fault: UnlawfulSetup) -> Refusal {
         Refusal {
             number: 1,
             place: 0,

@@ -2,7 +2,8 @@ ghost use Rattle.std.specs.Prelude.{◌≡◌};
 ghost use Rattle.action.specs.Order.{precedes};
 
 // One movement: who committed it and when, the transaction that it belongs to (by the time of that
-// transaction's first action), and what it does to which article.
+// transaction's first action), and what it does to which article. The operation is a number here, since
+// it is each kind that says which ones it knows.
 #[derive(Clone, Copy, Debug, PartialEq, Eq)]
 pub struct Action {
     pub coordinator: u8,
@@ -18,12 +19,6 @@ impl Action {
     pub fn precedes(&self, other: &Action) -> bool
         ensures { result ≡ precedes self.now other.now }
     {
-        if self.time != other.time {
-            return self.time < other.time;
-        }
-        if self.coordinator != other.coordinator {
-            return self.coordinator < other.coordinator;
-        }
-        self.article < other.article
+        (self.time, self.coordinator, self.article) < (other.time, other.coordinator, other.article)
     }
 }

@@ -5,7 +5,8 @@ use crate::orders::Action;
 
 impl Action {
     // The action as record A of the message format: the kind byte `A`, then the fields in
-    // order, most significant byte first.
+    // order, most significant byte first. Named as `u32::to_be_bytes` is: `into` would not say that
+    // these are bytes.
     pub fn to_bytes(&self) -> [u8; 16]
         ensures { result ≡ action_bytes self.now }
     {

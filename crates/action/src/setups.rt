@@ -2,7 +2,7 @@ ghost use Rattle.std.specs.Prelude.{◌<◌, ◌≤◌};
 
 // A group's number, its number of sites and of articles, and the site whose table this is.
 // Only lawful ones exist.
-#[derive(Clone, Copy)]
+#[derive(Clone, Copy, Debug, PartialEq, Eq)]
 pub struct Setup {
     pub group: u16,
     pub sites: u8,

@@ -19,7 +19,8 @@ fn actions_of<K: Kind>(setup: Setup, message: &[u8]) -> i64
 }
 
 // How many actions the message carries, for the tables of a group and a kind; minus 1 for a set-up
-// outside its limits or a kind that is not here, or minus the number of the reader's refusal.
+// outside its limits or a kind that is not here, or minus the number of the reader's refusal. Kinds go
+// by their numbers here, since C has no type parameters.
 #[unsafe(no_mangle)]
 pub extern "C" fn site_message_actions(
     message: &[u8],

@@ -159,3 +159,6 @@ module _ (n i : ℕ) (xs ws : List ℕ) (within : i < n) (room : n * 16 ≤ leng
 
   pub rest_take : drop ((n - 1) * 16) ws ≡ drop ((n - 1) * 16) xs
   rest_take = ap (drop ((n - 1) * 16)) moved ∙ drop_past_paste _ _ _ _ less left ((n - 1) * 16) (omega arith)
+
+-- what each step over a strip's places needs
+pub ruleset strip_steps = (action_front, get_d_strip, length_strip, strip_take, rest_take)

@@ -1,7 +1,6 @@
-ghost use Rattle.std.specs.Prelude.{◌≡◌, ◌≤◌, min, [], IfOk, vec_len, vec_capacity};
-ghost use Rattle.std.proofs.Common.{rules, arith};
+ghost use Rattle.std.specs.Prelude.{◌≡◌, ◌≤◌, min, [], length, IfOk, vec_capacity};
 
-use crate::faults::HistoryFault;
+use crate::faults::{HistoryFault, check_insert, check_place};
 use crate::interface::History;
 use action::{Action, MOST_PLACES};
 use std::alloc::{AllocError, Global};
@@ -11,7 +10,7 @@ use std::alloc::{AllocError, Global};
 pub struct Rack {
     actions: Vec<Action>,
     places: usize,
-    ghost within: { vec_len actions ≤ places },
+    ghost within: { length actions.items ≤ places },
     ghost held: { places ≤ vec_capacity actions },
     ghost few: { places ≤ 1024 },
 }
@@ -32,7 +31,7 @@ impl History for Rack {
 
     ghost room = { λ rack. rack.places };
 
-    ghost bounded = { first_of (Prim.search rules, Prim.grind (arith, Self.row.coded.inj)) };
+    ghost bounded = { λ rack. (rack.within, rack.few) };
 
     fn count(&self) -> usize {
         self.actions.len()
@@ -43,29 +42,17 @@ impl History for Rack {
     }
 
     fn read(&self, i: usize) -> Result<Action, HistoryFault> {
-        if i >= self.actions.len() {
-            return Err(HistoryFault::NoPlace(i));
-        }
-        Ok(self.actions[i])
+        self.actions.get(i).copied().ok_or(HistoryFault::NoPlace(i))
     }
 
     fn insert(&mut self, i: usize, action: Action) -> Result<(), HistoryFault> {
-        if self.actions.len() >= self.places {
-            return Err(HistoryFault::Full(self.places));
-        }
-        if i > self.actions.len() {
-            return Err(HistoryFault::NoPlace(i));
-        }
-        match self.actions.insert(i, action) {
-            Ok(()) => Ok(()),
-            Err(_) => unreachable(),
-        }
+        check_insert(i, self.actions.len(), self.places)?;
+        self.actions.insert(i, action).unwrap();
+        Ok(())
     }
 
     fn remove(&mut self, i: usize) -> Result<Action, HistoryFault> {
-        if i >= self.actions.len() {
-            return Err(HistoryFault::NoPlace(i));
-        }
+        check_place(i, self.actions.len())?;
         Ok(self.actions.remove(i))
     }
 }

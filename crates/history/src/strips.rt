@@ -1,9 +1,8 @@
 ghost use Rattle.std.specs.Prelude.{◌≡◌, ◌*◌, ◌/◌, ◌<◌, ◌≤◌, min, [], length, drop, vec_len, slice_index_or};
 ghost use Rattle.std.specs.List.{insert, remove};
 ghost use Rattle.history.specs.Strips.{strip_items};
-ghost use Rattle.std.proofs.Common.{rules, arith};
 
-use crate::faults::HistoryFault;
+use crate::faults::{HistoryFault, check_insert, check_place};
 use crate::interface::History;
 use action::{Action, MOST_PLACES};
 
@@ -11,19 +10,21 @@ use action::{Action, MOST_PLACES};
 const PLACE: usize = 16;
 
 // A history that keeps bytes: in each used place the record of its action. Its memory comes from
-// whoever makes it and keeps its length, so no call allocates, and what is left over after the last
-// whole place is never touched.
+// whoever makes it and keeps its length, so no call allocates and the used places are counted beside
+// it. What is left over after the last whole place is never touched.
 #[derive(Drop)]
 pub struct Strip {
     bytes: Vec<u8>,
     places: usize,
     used: usize,
-    ghost within: { used ≤ places },
+    ghost within: { length (strip_items used bytes.items) ≤ places },
     ghost whole: { places ≡ min (vec_len bytes / 16) 1024 },
+    ghost few: { places ≤ 1024 },
     // It holds at any bytes, and stands here so that each function has it at hand.
     ghost counted: { length (strip_items used bytes.items) ≡ used },
 }
 
+#[tactic(auto, using(crate::proofs::Places::strip_steps))]
 impl Strip {
     // An empty strip of as many places as the memory has room for, 1,024 at the most.
     pub fn new(memory: Vec<u8>) -> Strip
@@ -82,7 +83,7 @@ impl History for Strip {
 
     ghost room = { λ strip. strip.places };
 
-    ghost bounded = { first_of (Prim.search rules, Prim.grind (arith, Self.row.coded.inj)) };
+    ghost bounded = { λ strip. (strip.within, strip.few) };
 
     fn count(&self) -> usize {
         self.used
@@ -93,28 +94,18 @@ impl History for Strip {
     }
 
     fn read(&self, i: usize) -> Result<Action, HistoryFault> {
-        if i >= self.used {
-            return Err(HistoryFault::NoPlace(i));
-        }
+        check_place(i, self.used)?;
         Ok(self.action_at(i))
     }
 
     fn insert(&mut self, i: usize, action: Action) -> Result<(), HistoryFault> {
-        if self.used >= self.places {
-            return Err(HistoryFault::Full(self.places));
-        }
-        if i > self.used {
-            return Err(HistoryFault::NoPlace(i));
-        }
+        check_insert(i, self.used, self.places)?;
         self.put_in(i, action);
         Ok(())
     }
 
     fn remove(&mut self, i: usize) -> Result<Action, HistoryFault> {
-        if i >= self.used {
-            return Err(HistoryFault::NoPlace(i));
-        }
-        let action = self.action_at(i);
+        let action = self.read(i)?;
         self.take_out(i);
         Ok(action)
     }

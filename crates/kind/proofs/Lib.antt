@@ -1,2 +1,2 @@
-pub mod PriceLaws
+pub mod Raising
 pub mod Workings

@@ -1,38 +1,30 @@
--- Flags: the order of two known pairs makes no difference. Assumes nothing.
-use Rattle.std.specs.Prelude.{◌≡◌, ℕ, ◌+◌, ◌*◌, ◌/◌, ◌%◌, ◌^◌, ◌<◌, max, true, ℤ, FitsSigned, bit_or, refl}
-use Rattle.std.proofs.Common.{sym, ap, ◌∙◌, arith, to_z, of_z}
-use Rattle.std.proofs.Math.Arith.{bin_ind}
-use Rattle.std.specs.Int.Bits.{or_step}
-use Rattle.std.proofs.lemmas.Nat.{or_comm, or_lt, or_shr}
+-- Flags: a step stays within 64 bits, what is not known changes nothing, and the order of two known pairs makes no difference. Assumes nothing.
+use Rattle.std.specs.Prelude.{◌≡◌, ℕ, ◌^◌, ◌<◌, true, false, ℤ, FitsSigned, bit_or}
+use Rattle.std.proofs.Common.{ap, arith, to_z, of_z}
+use Rattle.std.proofs.lemmas.Nat.{or_lt}
+use Rattle.std.proofs.lemmas.Nat.Bits.{bit_at_or, same_from_bits}
 use Rattle.std.specs.Int.{w64}
-use Rattle.std.proofs.Math.Facts.{Fits-of_z}
+use Rattle.std.proofs.Math.Facts.{Fits-of_z, sfits_to_z}
 use Rattle.std.proofs.lemmas.Int.{of_z-to_z, ints}
+use Rattle.std.proofs.lemmas.Bool.{cond-false, cond_both}
 use Rattle.std.proofs.lemmas.Bool.Decides.{nat_tests}
 use Rattle.kind.specs.Meanings.{flags_knows, flags_step}
 
--- (a or b) or c, by the halves and the lowest bits
-join_left : (a b c : ℕ) → bit_or (bit_or a b) c ≡ bit_or (bit_or (a / 2) (b / 2)) (c / 2) * 2 + max (max (a % 2) (b % 2)) (c % 2)
-join_left a b c =
-    let half : bit_or a b / 2 ≡ bit_or (a / 2) (b / 2) = or_shr a b 1 in
-    let low : bit_or a b % 2 ≡ max (a % 2) (b % 2) = omega (arith, or_step a b) in
-    or_step (bit_or a b) c ∙ (λ i. bit_or (half i) (c / 2) * 2 + max (low i) (c % 2))
-
-join_right : (a b c : ℕ) → bit_or a (bit_or b c) ≡ bit_or (a / 2) (bit_or (b / 2) (c / 2)) * 2 + max (a % 2) (max (b % 2) (c % 2))
-join_right a b c =
-    let half : bit_or b c / 2 ≡ bit_or (b / 2) (c / 2) = or_shr b c 1 in
-    let low : bit_or b c % 2 ≡ max (b % 2) (c % 2) = omega (arith, or_step b c) in
-    or_step a (bit_or b c) ∙ (λ i. bit_or (a / 2) (half i) * 2 + max (a % 2) (low i))
-
-or_assoc : (a b c : ℕ) → bit_or (bit_or a b) c ≡ bit_or a (bit_or b c)
-or_assoc =
-    bin_ind (λ (a : ℕ). (b c : ℕ) → bit_or (bit_or a b) c ≡ bit_or a (bit_or b c)) (λ b c. refl)
-    (λ a ih b c. join_left a b c ∙ (λ i. ih (b / 2) (c / 2) i * 2 + max (max (a % 2) (b % 2)) (c % 2)) ∙ omega arith ∙ sym (join_right a b c))
-
 swapped : (x y z : ℕ) → bit_or (bit_or x y) z ≡ bit_or (bit_or x z) y
-swapped x y z = or_assoc x y z ∙ ap (bit_or x) (or_comm y z) ∙ sym (or_assoc x z y)
+swapped x y z =
+    same_from_bits _ _ (λ i. omega (arith, bit_at_or (bit_or x y) z i, bit_at_or x y i, bit_at_or (bit_or x z) y i, bit_at_or x z i))
 
 known_bits : (o : ℕ) (a : ℤ) → flags_knows o a ≡ true → of_z w64 a < 2 ^ 64
 known_bits o a x = grind (arith, ints, nat_tests)
+
+pub flags_fits : (f : ℤ) (o : ℕ) (a : ℤ) → FitsSigned w64 f → FitsSigned w64 (flags_step f o a)
+flags_fits f o a fits =
+    cond_both (flags_knows o a) (to_z w64 (bit_or (of_z w64 f) (of_z w64 a))) f (FitsSigned w64)
+    (λ known. sfits_to_z (record { fits = or_lt 64 _ _ (Fits-of_z fits).fits (known_bits o a known) }))
+    (λ _. fits)
+
+pub flags_unknown : (f : ℤ) (o : ℕ) (a : ℤ) → flags_knows o a ≡ false → flags_step f o a ≡ f
+flags_unknown f o a unknown = cond-false (flags_knows o a) _ f unknown
 
 pub flags_commute : (f : ℤ) (o : ℕ) (a : ℤ) (p : ℕ) (b : ℤ) → FitsSigned w64 f → flags_knows o a ≡ true → flags_knows p b ≡ true → flags_step (flags_step f o a) p b ≡ flags_step (flags_step f p b) o a
 flags_commute f o a p b fits x y =

@@ -1,11 +1,12 @@
 ghost use Rattle.kind.specs.Meanings.{flags};
-ghost use Rattle.kind.specs.FlagsLaws.{flags_commute};
-ghost use Rattle.std.proofs.Common.{rules};
+ghost use Rattle.kind.specs.FlagsLaws.{flags_commute, flags_fits, flags_unknown};
+ghost use Rattle.std.proofs.Common.{lit≤, refl};
+ghost use Rattle.std.proofs.Math.Facts.{sfits_lit};
 
 use crate::interface::Kind;
 
 // Flags, a bit for each: kind 2.
-#[derive(Clone, Copy)]
+#[derive(Clone, Copy, Debug, PartialEq, Eq)]
 pub struct Flags;
 
 const SWITCH_ON: u8 = 1;
@@ -18,28 +19,28 @@ impl Kind for Flags {
 
     const START_FIGURE: i64 = 0;
 
+    ghost KIND_NUMBER = { flags.number };
+
+    ghost START_FIGURE = { flags.starts };
+
     ghost means = { flags };
 
-    ghost number_fits = { Prim.search rules };
+    ghost numbered = { refl };
 
-    ghost start_fits = { Prim.search rules };
+    ghost starting = { refl };
 
-    ghost step_fits = { Prim.search rules };
+    ghost number_fits = { lit≤ tt };
 
-    ghost unknown_leaves = { Prim.search rules };
+    ghost start_fits = { sfits_lit tt };
+
+    ghost step_fits = { flags_fits };
+
+    ghost unknown_leaves = { flags_unknown };
 
     ghost commute = { λ f o a p b fits c x y. flags_commute f o a p b fits x y };
 
-    fn number() -> u8 {
-        Self::KIND_NUMBER
-    }
-
-    fn start() -> i64 {
-        Self::START_FIGURE
-    }
-
     fn is_known(operation: u8, amount: i32) -> bool {
-        operation == SWITCH_ON && 1 <= amount && amount <= ALL_FLAGS
+        operation == SWITCH_ON && (1..=ALL_FLAGS).contains(&amount)
     }
 
     fn step(figure: i64, operation: u8, amount: i32) -> i64 {

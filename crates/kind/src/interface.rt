@@ -9,14 +9,23 @@ pub trait Kind {
 
     const START_FIGURE: i64;
 
+    ghost KIND_NUMBER: { ℕ };
+
+    ghost START_FIGURE: { ℤ };
+
     ghost means: { Meaning };
 
-    // The two constants as calls, since code over every kind learns nothing of a constant.
     fn number() -> u8
-        ensures { result ≡ means.number };
+        ensures { result ≡ means.number }
+    {
+        Self::KIND_NUMBER
+    }
 
     fn start() -> i64
-        ensures { result ≡ means.starts };
+        ensures { result ≡ means.starts }
+    {
+        Self::START_FIGURE
+    }
 
     fn is_known(operation: u8, amount: i32) -> bool
         ensures { result ≡ means.knows operation amount };
@@ -26,6 +35,10 @@ pub trait Kind {
 
     fn is_commuting() -> bool
         ensures { result ≡ means.commutes };
+
+    ghost numbered: { KIND_NUMBER ≡ means.number };
+
+    ghost starting: { START_FIGURE ≡ means.starts };
 
     ghost number_fits: { means.number ≤ 255 };
 

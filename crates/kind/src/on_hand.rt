@@ -1,11 +1,12 @@
 ghost use Rattle.kind.specs.Meanings.{on_hand};
-ghost use Rattle.kind.specs.OnHandLaws.{on_hand_fits, on_hand_commutes};
-ghost use Rattle.std.proofs.Common.{rules};
+ghost use Rattle.kind.specs.OnHandLaws.{on_hand_commutes, on_hand_fits, on_hand_unknown};
+ghost use Rattle.std.proofs.Common.{lit≤, refl};
+ghost use Rattle.std.proofs.Math.Facts.{sfits_lit};
 
 use crate::interface::Kind;
 
 // How many are on hand: kind 1.
-#[derive(Clone, Copy)]
+#[derive(Clone, Copy, Debug, PartialEq, Eq)]
 pub struct OnHand;
 
 const ADD: u8 = 1;
@@ -18,28 +19,28 @@ impl Kind for OnHand {
 
     const START_FIGURE: i64 = 0;
 
+    ghost KIND_NUMBER = { on_hand.number };
+
+    ghost START_FIGURE = { on_hand.starts };
+
     ghost means = { on_hand };
 
-    ghost number_fits = { Prim.search rules };
+    ghost numbered = { refl };
 
-    ghost start_fits = { Prim.search rules };
+    ghost starting = { refl };
 
-    ghost step_fits = { λ f o a fits. on_hand_fits f o a fits };
+    ghost number_fits = { lit≤ tt };
 
-    ghost unknown_leaves = { Prim.search rules };
+    ghost start_fits = { sfits_lit tt };
+
+    ghost step_fits = { on_hand_fits };
+
+    ghost unknown_leaves = { on_hand_unknown };
 
     ghost commute = { λ f o a p b fits c x y. on_hand_commutes f o a p b x y };
 
-    fn number() -> u8 {
-        Self::KIND_NUMBER
-    }
-
-    fn start() -> i64 {
-        Self::START_FIGURE
-    }
-
     fn is_known(operation: u8, amount: i32) -> bool {
-        operation == ADD && -MOST_MOVED <= amount && amount <= MOST_MOVED
+        operation == ADD && (-MOST_MOVED..=MOST_MOVED).contains(&amount)
     }
 
     fn step(figure: i64, operation: u8, amount: i32) -> i64 {

@@ -1,11 +1,15 @@
-ghost use Rattle.std.specs.Prelude.{◌≡◌, pos, neg_ℤ, ◌≤ℤ◌};
-ghost use Rattle.kind.specs.Meanings.{held, price, raised};
-ghost use Rattle.std.proofs.Common.{rules};
+ghost use Rattle.std.specs.Prelude.{◌≡◌, false, pos, neg_ℤ, ◌≤ℤ◌, MatchOption};
+ghost use Rattle.kind.specs.Changes.{StandsFor};
+ghost use Rattle.kind.specs.Meanings.{held, price, price_knows, raised};
+ghost use Rattle.kind.specs.PriceLaws.{price_fits, price_unknown};
+ghost use Rattle.std.proofs.Common.{lit≤, refl};
+ghost use Rattle.std.proofs.Math.Facts.{sfits_lit};
+ghost use Rattle.std.proofs.lemmas.Bool.{false≢true};
 
 use crate::interface::Kind;
 
 // A price in cents: kind 3.
-#[derive(Clone, Copy)]
+#[derive(Clone, Copy, Debug, PartialEq, Eq)]
 pub struct Price;
 
 const SET: u8 = 1;
@@ -16,6 +20,27 @@ const HIGHEST: i64 = 99_999_999;
 
 // The most thousandths of the price that one action may add or take away.
 const MOST_RAISED: i64 = 500;
+
+// What an action does to a price.
+#[derive(Clone, Copy)]
+enum Change {
+    // To so many cents.
+    Set(i64),
+    // By so many thousandths.
+    Raise(i64),
+}
+
+// The change that a pair stands for, if it is a known one.
+fn change_of(operation: u8, amount: i32) -> Option<Change>
+    ensures { MatchOption result (price_knows operation amount ≡ false) (StandsFor operation amount) }
+{
+    let amount = i64::from(amount);
+    match operation {
+        SET if (0..=HIGHEST).contains(&amount) => Some(Change::Set(amount)),
+        RAISE if (-MOST_RAISED..=MOST_RAISED).contains(&amount) => Some(Change::Raise(amount)),
+        _ => None,
+    }
+}
 
 // The nearest figure that is a price.
 fn held(figure: i64) -> i64
@@ -38,44 +63,35 @@ impl Kind for Price {
 
     const START_FIGURE: i64 = 0;
 
+    ghost KIND_NUMBER = { price.number };
+
+    ghost START_FIGURE = { price.starts };
+
     ghost means = { price };
 
-    ghost number_fits = { Prim.search rules };
+    ghost numbered = { refl };
 
-    ghost start_fits = { Prim.search rules };
+    ghost starting = { refl };
 
-    ghost step_fits = { Prim.search rules };
+    ghost number_fits = { lit≤ tt };
 
-    ghost unknown_leaves = { Prim.search rules };
+    ghost start_fits = { sfits_lit tt };
 
-    ghost commute = { Prim.search rules };
+    ghost step_fits = { price_fits };
 
-    fn number() -> u8 {
-        Self::KIND_NUMBER
-    }
+    ghost unknown_leaves = { price_unknown };
 
-    fn start() -> i64 {
-        Self::START_FIGURE
-    }
+    ghost commute = { λ f o a p b fits c x y. absurd (false≢true c) };
 
     fn is_known(operation: u8, amount: i32) -> bool {
-        let amount = i64::from(amount);
-        match operation {
-            SET => 0 <= amount && amount <= HIGHEST,
-            RAISE => -MOST_RAISED <= amount && amount <= MOST_RAISED,
-            _ => false,
-        }
+        change_of(operation, amount).is_some()
     }
 
     fn step(figure: i64, operation: u8, amount: i32) -> i64 {
-        if !Self::is_known(operation, amount) {
-            return figure;
-        }
-        let amount = i64::from(amount);
-        if operation == SET {
-            amount
-        } else {
-            raised(figure, amount)
+        match change_of(operation, amount) {
+            Some(Change::Set(cents)) => cents,
+            Some(Change::Raise(thousandths)) => raised(figure, thousandths),
+            None => figure,
         }
     }
 

@@ -69,7 +69,7 @@ impl TableFault {
             TableFault::Ahead(place) => by_table(14, place),
             TableFault::Short(needed) => by_table(15, needed),
             TableFault::InReader(fault) => fault.refusal(),
-            TableFault::InHistory(fault) => fault.refusal(),
+            TableFault::InHistory(fault) => Refusal::from(fault),
         }
     }
 }

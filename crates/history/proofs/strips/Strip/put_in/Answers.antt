@@ -6,11 +6,8 @@ use Rattle.std.proofs.lemmas.List.{with_items_is}
 use Rattle.action.specs.Bytes.{action_bytes}
 use Rattle.action.proofs.Round.{action_back}
 use Rattle.history.specs.Strips.{strip_items}
-use Rattle.history.proofs.Places.{length_strip, strip_put, rest_put}
+use Rattle.history.proofs.Places.{strip_put, rest_put}
 use Rattle.history.proofs.strips.Strip.put_in.Goals as goal
-
-pub invariant_of-self : goal.invariant_of-self
-invariant_of-self c = search (rules, length_strip)
 
 pub returns : goal.returns
 returns c =
