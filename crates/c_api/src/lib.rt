@@ -4,7 +4,7 @@
 ghost use Rattle.std.specs.Prelude.{◌≡◌};
 ghost use Rattle.c_api.specs.Call.{Answered, Checked};
 
-use action::Setup;
+use action::{Refusal, Setup};
 use kind::{Flags, Kind, OnHand, Price};
 use message::check;
 
@@ -14,7 +14,7 @@ fn actions_of<K: Kind>(setup: Setup, message: &[u8]) -> i64
 {
     match check::<K>(setup, message) {
         Ok(actions) => actions as i64,
-        Err(fault) => -i64::from(fault.refusal().number),
+        Err(fault) => -i64::from(Refusal::from(fault).number),
     }
 }
 

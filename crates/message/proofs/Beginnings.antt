@@ -1,15 +1,17 @@
 -- Lawful beginnings of the same bytes: of two, one begins the other. Assumes nothing.
-use Rattle.std.proofs.Common.{◌≡◌, ℕ, ◌-◌, ◌≤◌, Bool, true, false, cond, ltb, ◌⊎◌, List, [], ◌∷◌, ◌++◌, length, Some, fold, sym, refl, ap, ◌∙◌, subst, inl, inr, arith}
+use Rattle.std.proofs.Common.{◌≡◌, ℕ, ◌-◌, ◌≤◌, Bool, true, false, cond, ltb, ◌⊎◌, List, [], ◌∷◌, ◌++◌, length, Some, Ok, Option, Result, fold, sym, refl, ap, ◌∙◌, subst, inl, inr, arith}
 use Rattle.std.specs.List.{flat_map, AllByRecursion}
 use Rattle.std.proofs.lemmas.List.{append_assoc, append_cancel_left, append-nil, length-append}
 use Rattle.std.proofs.lemmas.Bool.{false≢true}
+use Rattle.std.proofs.lemmas.Grind.{flat_map-append}
+use Rattle.std.proofs.lemmas.List.Sums.{fold-append}
 use Rattle.action.specs.declared.refusals.Refusal.{Refusal}
 use Rattle.action.specs.declared.setups.Setup.{Setup}
+use Rattle.action.proofs.Members.{all_append_parts}
 use Rattle.kind.specs.Meaning.{Meaning}
-use Rattle.message.specs.declared.decodes.Decoded.TheVariants.{Whole}
+use Rattle.message.specs.declared.faults.Flaw.{Flaw}
 use Rattle.message.specs.declared.reading.Due.{Due}
 use Rattle.message.specs.declared.reading.Progress.{Progress}
-use Rattle.message.specs.declared.reading.Verdict.TheVariants.{Passed}
 use Rattle.message.specs.declared.records.Header.{Header}
 use Rattle.message.specs.declared.records.Record.{Record}
 use Rattle.message.specs.declared.records.Record.TheVariants as RecordKinds
@@ -20,12 +22,9 @@ use Rattle.message.specs.Format.{record_bytes}
 use Rattle.message.specs.Progress.{admitted, due_after, named, start}
 use Rattle.message.specs.Reading.{is_due, onward, reading}
 use Rattle.message.proofs.Decodings.{decoded_format}
-use Rattle.message.proofs.Formats.{joined_append}
 use Rattle.message.proofs.Onward.{action_on, first_on, header_on, interval_on, not_none, section_on, some_same}
 use Rattle.message.proofs.Refusing.{named_told}
-use Rattle.message.proofs.Sections.{all_parts}
 use Rattle.message.proofs.Steps.{onward_passes, record_size}
-use Rattle.message.proofs.Stretches.{folded_append}
 
 -- one list begins the other
 abbrev pub Begins : List Record → List Record → Type 0
@@ -36,7 +35,7 @@ Begins rs qs = (ts : List Record) × (qs ≡ rs ++ ts)
 -- bytes start with one record at most of the kind due
 pub same_record : (d : Due) (r q : Record) (bs : List ℕ) → is_due d r ≡ true → is_due d q ≡ true → Fitting r → Fitting q → StartsWith bs r → StartsWith bs q → r ≡ q
 same_record d r q bs is so f g s t =
-    let e : Whole r ≡ Whole q = sym (decoded_format s.0 d r is f) ∙ ap (decoded d) (sym s.1 ∙ t.1) ∙ decoded_format t.0 d q so g in
+    let e : ◌≡◌ {A = Result (Option Record) Flaw} (Ok (Some r)) (Ok (Some q)) = sym (decoded_format s.0 d r is f) ∙ ap (decoded d) (sym s.1 ∙ t.1) ∙ decoded_format t.0 d q so g in
     cc
 
 -- the bytes after a first record
@@ -54,7 +53,7 @@ module _ (kind : Meaning) (setup : Setup) where
       let b = first_on kind setup p f q qs k in
       let bytes = sym (starts r rs more) ∙ same ∙ starts q qs less in
       let one : r ≡ q = same_record p.due r q (record_bytes r ++ (flat_map record_bytes rs ++ more)) a.was_due b.was_due fit.0 git.0 (flat_map record_bytes rs ++ more, refl) (flat_map record_bytes qs ++ less, bytes) in
-      let next : Passed a.next ≡ Passed b.next = sym a.passes ∙ ap (admitted kind setup p) one ∙ b.passes in
+      let next : ◌≡◌ {A = Result Progress Flaw} (Ok a.next) (Ok b.next) = sym a.passes ∙ ap (admitted kind setup p) one ∙ b.passes in
       let on : b.next ≡ a.next = cc in
       let rest = append_cancel_left (record_bytes r) (flat_map record_bytes rs ++ more) (flat_map record_bytes qs ++ less) (bytes ∙ ap (λ x. record_bytes x ++ (flat_map record_bytes qs ++ less)) (sym one)) in
       put one (beginnings a.next e f rs qs more less a.onto (ap (λ n. fold (onward kind setup) (Some n) qs) (sym on) ∙ b.onto) fit.1 git.1 rest)
@@ -65,7 +64,7 @@ module _ (kind : Meaning) (setup : Setup) where
 
   -- what leads on after a lawful beginning
   pub after_beginning : (rs ts : List Record) (p e : Progress) → reading kind setup rs ≡ Some p → reading kind setup (rs ++ ts) ≡ Some e → fold (onward kind setup) (Some p) ts ≡ Some e
-  after_beginning rs ts p e h k = ap (λ o. fold (onward kind setup) o ts) (sym h) ∙ sym (folded_append (onward kind setup) (Some start) rs ts) ∙ k
+  after_beginning rs ts p e h k = ap (λ o. fold (onward kind setup) o ts) (sym h) ∙ sym (fold-append (onward kind setup) (Some start) rs ts) ∙ k
 
   -- nothing leads on from the end
   pub at_the_end : (p e : Progress) (ts : List Record) → p.due ≡ Due.End → fold (onward kind setup) (Some p) ts ≡ Some e → ts ≡ []
@@ -75,7 +74,7 @@ module _ (kind : Meaning) (setup : Setup) where
   -- REFUSALS
 
   -- the rest of refused bytes starts with no record that leads on
-  pub no_further : (p q : Progress) (at : ℕ) (rest : List ℕ) (why : Refusal) (r : Record) → Reason kind setup p at rest why → is_due p.due r ≡ true → admitted kind setup p r ≡ Passed q → Fitting r → StartsWith rest r → ⊥
+  pub no_further : (p q : Progress) (at : ℕ) (rest : List ℕ) (why : Refusal) (r : Record) → Reason kind setup p at rest why → is_due p.due r ≡ true → admitted kind setup p r ≡ Ok q → Fitting r → StartsWith rest r → ⊥
   no_further p q at rest why r (no_record n) is so fits s = n.none r is fits s
   no_further p q at rest why r (other_table o) is so fits s =
       let head = RecordKinds.Header o.header in
@@ -101,8 +100,8 @@ module _ (kind : Meaning) (setup : Setup) where
       decide (inl ([], is)) = ([], sym (is ∙ append-nil rs) ∙ sym (append-nil qs))
       decide (inl (t ∷ ts, is)) =
           let f = first_on kind setup p q t ts (after_beginning rs (t ∷ ts) p q b.lawful (ap (reading kind setup) (sym is) ∙ c.lawful)) in
-          let fits = (all_parts Fitting rs (t ∷ ts) (subst (AllByRecursion Fitting) is c.fitting)).1.0 in
-          let cut = ap (λ l. flat_map record_bytes l ++ less) is ∙ ap (λ l. l ++ less) (joined_append record_bytes rs (t ∷ ts)) ∙ append_assoc (flat_map record_bytes rs) (flat_map record_bytes (t ∷ ts)) less in
+          let fits = (all_append_parts Fitting rs (t ∷ ts) (subst (AllByRecursion Fitting) is c.fitting)).1.0 in
+          let cut = ap (λ l. flat_map record_bytes l ++ less) is ∙ ap (λ l. l ++ less) (flat_map-append record_bytes rs (t ∷ ts)) ∙ append_assoc (flat_map record_bytes rs) (flat_map record_bytes (t ∷ ts)) less in
           let rest-is = append_cancel_left (flat_map record_bytes rs) rest _ (sym b.front ∙ c.front ∙ cut) in
           absurd (no_further p f.next at rest why t reason f.was_due f.passes fits (flat_map record_bytes ts ++ less, rest-is ∙ starts t ts less))
 
@@ -111,15 +110,15 @@ no_header : (intervals actions sections : ℕ) → due_after intervals actions s
 no_header intervals actions sections h = by_tests (ltb 0 intervals) (ltb 0 actions) (ltb 0 sections) h
   where
     by_tests : (a b c : Bool) → cond a Due.Interval (cond b Due.Action (cond c Due.Section Due.End)) ≡ Due.Header → ⊥
-    by_tests true b c e = let z : ◌≡◌ {A = ℕ} 0 1 = cc in omega arith
-    by_tests false true c e = let z : ◌≡◌ {A = ℕ} 0 1 = cc in omega arith
-    by_tests false false true e = let z : ◌≡◌ {A = ℕ} 0 1 = cc in omega arith
-    by_tests false false false e = let z : ◌≡◌ {A = ℕ} 0 1 = cc in omega arith
+    by_tests true b c e = cc
+    by_tests false true c e = cc
+    by_tests false false true e = cc
+    by_tests false false false e = cc
 
 module _ (kind : Meaning) (setup : Setup) where
-  after_one : (p q : Progress) (r : Record) (d : Due) → is_due d r ≡ true → admitted kind setup p r ≡ Passed q → q.due ≡ Due.Header → ⊥
-  after_one p q r Due.Header is so h = let t = header_on kind setup p q r is so in let e : Due.Section ≡ Due.Header = ap (λ x. x.due) (sym t.4) ∙ h in let z : ◌≡◌ {A = ℕ} 0 1 = cc in omega arith
-  after_one p q r Due.Section is so h = let t = section_on kind setup p q r is so in let e : Due.Interval ≡ Due.Header = ap (λ x. x.due) (sym t.3) ∙ h in let z : ◌≡◌ {A = ℕ} 0 1 = cc in omega arith
+  after_one : (p q : Progress) (r : Record) (d : Due) → is_due d r ≡ true → admitted kind setup p r ≡ Ok q → q.due ≡ Due.Header → ⊥
+  after_one p q r Due.Header is so h = let t = header_on kind setup p q r is so in let e : Due.Section ≡ Due.Header = ap (λ x. x.due) (sym t.4) ∙ h in cc
+  after_one p q r Due.Section is so h = let t = section_on kind setup p q r is so in let e : Due.Interval ≡ Due.Header = ap (λ x. x.due) (sym t.3) ∙ h in cc
   after_one p q r Due.Interval is so h = let t = interval_on kind setup p q r is so in no_header (p.intervals - 1) p.actions p.sections (ap (λ x. x.due) (sym t.3) ∙ h)
   after_one p q r Due.Action is so h = let t = action_on kind setup p q r is so in no_header 0 (p.actions - 1) p.sections (ap (λ x. x.due) (sym t.3) ∙ h)
   after_one p q r Due.End is so h = false≢true is
@@ -141,9 +140,9 @@ module _ (kind : Meaning) (setup : Setup) where
 
 -- what begins another is no longer, and as long only where it is the same
 pub begins_length : (rs qs : List Record) → Begins rs qs → length (flat_map record_bytes rs) ≤ length (flat_map record_bytes qs)
-begins_length rs qs (ts, is) = omega (arith, ap (λ l. length (flat_map record_bytes l)) is ∙ ap length (joined_append record_bytes rs ts) ∙ length-append (flat_map record_bytes rs) (flat_map record_bytes ts))
+begins_length rs qs (ts, is) = omega (arith, ap (λ l. length (flat_map record_bytes l)) is ∙ ap length (flat_map-append record_bytes rs ts) ∙ length-append (flat_map record_bytes rs) (flat_map record_bytes ts))
 
 pub begins_same : (rs qs : List Record) → Begins rs qs → flat_map record_bytes rs ≡ flat_map record_bytes qs → rs ≡ qs
 begins_same rs qs ([], is) same = sym (is ∙ append-nil rs)
 begins_same rs qs (t ∷ ts, is) same =
-    absurd (omega (arith, ap length same, ap (λ l. length (flat_map record_bytes l)) is ∙ ap length (joined_append record_bytes rs (t ∷ ts)) ∙ length-append (flat_map record_bytes rs) (flat_map record_bytes (t ∷ ts)), length-append (record_bytes t) (flat_map record_bytes ts), record_size t))
+    absurd (omega (arith, ap length same, ap (λ l. length (flat_map record_bytes l)) is ∙ ap length (flat_map-append record_bytes rs (t ∷ ts)) ∙ length-append (flat_map record_bytes rs) (flat_map record_bytes (t ∷ ts)), length-append (record_bytes t) (flat_map record_bytes ts), record_size t))

@@ -1,6 +1,6 @@
 -- One write after another. Assumes nothing.
 use Rattle.std.proofs.Common.{◌≡◌, ℕ, ◌+◌, ◌≤◌, List, [], ◌++◌, length, take, drop, sym, ap, ◌∙◌, add_assoc, arith}
-use Rattle.std.proofs.lemmas.List.{append_assoc, drop_at, drop-drop, length-append, length-drop, length-take-le, take_at, take-append-drop}
+use Rattle.std.proofs.lemmas.List.{append_assoc, drop_at, drop-drop, length-append, length-take-le, take_at, take-append-drop}
 use Rattle.message.specs.Buffer.{overwritten}
 
 pub overwritten_none : (b : List ℕ) (at : ℕ) → overwritten b at [] ≡ b
@@ -16,10 +16,6 @@ module _ (b : List ℕ) (at : ℕ) (xs : List ℕ) (fits : at + length xs ≤ le
   pub drop_overwritten : (n : ℕ) → drop (at + length xs + n) (overwritten b at xs) ≡ drop (at + length xs + n) b
   drop_overwritten n =
       sym (drop-drop n (at + length xs) (overwritten b at xs)) ∙ ap (drop n) (ap (drop (at + length xs)) (sym (append_assoc (take at b) xs _)) ∙ drop_at (take at b ++ xs) _ _ front) ∙ drop-drop n (at + length xs) b
-
-  pub length_overwritten : length (overwritten b at xs) ≡ length b
-  length_overwritten =
-      ap length (sym (append_assoc (take at b) xs _)) ∙ length-append (take at b ++ xs) _ ∙ (λ i. front i + length-drop (at + length xs) b i) ∙ omega arith
 
   pub overwritten_more : (ys : List ℕ) → overwritten (overwritten b at xs) (at + length xs) ys ≡ overwritten b at (xs ++ ys)
   overwritten_more ys =

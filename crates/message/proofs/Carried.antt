@@ -44,7 +44,7 @@ none_found test at a (RecordKinds.Section s ∷ rs) h = none_found test (at + 5)
 none_found test at a (RecordKinds.Action _ ∷ rs) h = none_found test (at + 16) a rs h
 none_found test at a (RecordKinds.Interval i ∷ rs) h =
     ⊎_elim
-    (λ e. absurd (let f : Some at ≡ None = sym (cond-true (test a i) (Some at) _ e) ∙ h in let z : ◌≡◌ {A = ℕ} 0 1 = cc in omega arith))
+    (λ e. absurd (let f : Some at ≡ None = sym (cond-true (test a i) (Some at) _ e) ∙ h in cc))
     (λ e. (e, none_found test (at + 10) a rs (sym (cond-false (test a i) (Some at) _ e) ∙ h)))
     (cases_Bool (test a i))
 

@@ -1,10 +1,10 @@
 -- A record's own bytes are read as that record. Assumes nothing.
-use Rattle.std.proofs.Common.{◌≡◌, ℕ, ◌+◌, ◌*◌, ◌/◌, ◌%◌, ◌<◌, ◌≤◌, true, List, ◌++◌, length, get_or, refl, ap, ◌∙◌, arith}
+use Rattle.std.proofs.Common.{◌≡◌, ℕ, ◌+◌, ◌*◌, ◌/◌, ◌%◌, ◌<◌, ◌≤◌, true, List, ◌++◌, length, get_or, Some, Ok, Err, refl, ap, ◌∙◌, arith}
 use Rattle.std.proofs.lemmas.Bool.{and_from, cond-true, eq-eqb, false≢true, le-leb}
 use Rattle.action.specs.declared.orders.Action.{Action}
 use Rattle.action.specs.Bytes.{action_bytes, action_of}
 use Rattle.action.proofs.Round.{action_back, four_bytes}
-use Rattle.message.specs.declared.decodes.Decoded.TheVariants.{Whole, Cut}
+use Rattle.message.specs.declared.faults.Flaw.TheVariants.{Cut}
 use Rattle.message.specs.declared.reading.Due.{Due}
 use Rattle.message.specs.declared.records.Header.{Header}
 use Rattle.message.specs.declared.records.Interval.{Interval}
@@ -37,21 +37,21 @@ module _ (more : List ℕ) where
   begun kind size bs long is = and_from _ _ (le-leb _ _ long) (eq-eqb _ _ is)
 
   -- where a record is due, and its fields fit, its bytes are read as that record, whatever follows
-  pub decoded_format : (d : Due) (r : Record) → is_due d r ≡ true → Fitting r → decoded d (record_bytes r ++ more) ≡ Whole r
-  decoded_format Due.Header (RecordKinds.Header h) is f = cond-true _ _ Cut (begun 0x48 6 (header_bytes h ++ more) (omega arith) refl) ∙ ap (λ x. Whole (RecordKinds.Header x)) (header_in_lem h f)
+  pub decoded_format : (d : Due) (r : Record) → is_due d r ≡ true → Fitting r → decoded d (record_bytes r ++ more) ≡ Ok (Some r)
+  decoded_format Due.Header (RecordKinds.Header h) is f = cond-true _ _ (Err Cut) (begun 0x48 6 (header_bytes h ++ more) (omega arith) refl) ∙ ap (λ x. Ok (Some (RecordKinds.Header x))) (header_in_lem h f)
   decoded_format Due.Header (RecordKinds.Section s) is f = absurd (false≢true is)
   decoded_format Due.Header (RecordKinds.Interval i) is f = absurd (false≢true is)
   decoded_format Due.Header (RecordKinds.Action x) is f = absurd (false≢true is)
   decoded_format Due.Section (RecordKinds.Header h) is f = absurd (false≢true is)
-  decoded_format Due.Section (RecordKinds.Section s) is f = cond-true _ _ Cut (begun 0x53 5 (section_bytes s ++ more) (omega arith) refl) ∙ ap (λ x. Whole (RecordKinds.Section x)) (section_in_lem s f)
+  decoded_format Due.Section (RecordKinds.Section s) is f = cond-true _ _ (Err Cut) (begun 0x53 5 (section_bytes s ++ more) (omega arith) refl) ∙ ap (λ x. Ok (Some (RecordKinds.Section x))) (section_in_lem s f)
   decoded_format Due.Section (RecordKinds.Interval i) is f = absurd (false≢true is)
   decoded_format Due.Section (RecordKinds.Action x) is f = absurd (false≢true is)
   decoded_format Due.Interval (RecordKinds.Header h) is f = absurd (false≢true is)
   decoded_format Due.Interval (RecordKinds.Section s) is f = absurd (false≢true is)
-  decoded_format Due.Interval (RecordKinds.Interval i) is f = cond-true _ _ Cut (begun 0x49 10 (interval_bytes i ++ more) (omega arith) refl) ∙ ap (λ x. Whole (RecordKinds.Interval x)) (interval_in_lem i f)
+  decoded_format Due.Interval (RecordKinds.Interval i) is f = cond-true _ _ (Err Cut) (begun 0x49 10 (interval_bytes i ++ more) (omega arith) refl) ∙ ap (λ x. Ok (Some (RecordKinds.Interval x))) (interval_in_lem i f)
   decoded_format Due.Interval (RecordKinds.Action x) is f = absurd (false≢true is)
   decoded_format Due.Action (RecordKinds.Header h) is f = absurd (false≢true is)
   decoded_format Due.Action (RecordKinds.Section s) is f = absurd (false≢true is)
   decoded_format Due.Action (RecordKinds.Interval i) is f = absurd (false≢true is)
-  decoded_format Due.Action (RecordKinds.Action x) is f = cond-true _ _ Cut (begun 0x41 16 (action_bytes x ++ more) (omega arith) refl) ∙ ap (λ y. Whole (RecordKinds.Action y)) (action_in_lem x f)
+  decoded_format Due.Action (RecordKinds.Action x) is f = cond-true _ _ (Err Cut) (begun 0x41 16 (action_bytes x ++ more) (omega arith) refl) ∙ ap (λ y. Ok (Some (RecordKinds.Action y))) (action_in_lem x f)
   decoded_format Due.End r is f = absurd (false≢true is)

@@ -3,18 +3,14 @@ use Rattle.std.proofs.Common.{◌≡◌, ℕ, ◌+◌, ◌*◌, ◌/◌, ◌%◌
 use native.Mathlib.Nat.{div-div-eq-div-mul}
 use Rattle.action.specs.Bytes.{bytes_of}
 
-module _ (a b : ℕ) (bs : b < 256) where
-  pub front : (a * 256 + b) / 256 ≡ a
-  front = omega arith
-
-  pub last : (a * 256 + b) % 256 ≡ b
-  last = omega arith
-
 pub two_digits : (a b : ℕ) → a < 256 → b < 256 → bytes_of 2 (a * 256 + b) ≡ a ∷ b ∷ []
-two_digits a b al bl = λ i. (omega_front i ∷ (last a b bl i ∷ []))
+two_digits a b al bl = λ i. (high i ∷ (low i ∷ []))
   where
-    omega_front : (a * 256 + b) / 256 % 256 ≡ a
-    omega_front = omega arith
+    high : (a * 256 + b) / 256 % 256 ≡ a
+    high = omega arith
+
+    low : (a * 256 + b) % 256 ≡ b
+    low = omega arith
 
 pub four_digits : (a b c d : ℕ) → a < 256 → b < 256 → c < 256 → d < 256 → bytes_of 4 (a * 16777216 + b * 65536 + c * 256 + d) ≡ a ∷ b ∷ c ∷ d ∷ []
 four_digits a b c d al bl cl dl =

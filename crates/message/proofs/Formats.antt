@@ -1,7 +1,9 @@
 -- A message's bytes, part by part. Assumes nothing.
 use Rattle.std.proofs.Common.{◌≡◌, ℕ, ◌+◌, ◌*◌, ◌≤◌, List, [], ◌∷◌, ◌++◌, map, length, sym, refl, ap, ◌∙◌, arith}
 use Rattle.std.specs.List.{flat_map}
-use Rattle.std.proofs.lemmas.List.{append_assoc, append-nil, length-append}
+use Rattle.std.proofs.lemmas.Grind.{flat_map-append}
+use Rattle.std.proofs.lemmas.List.{append-nil, length-append}
+use Rattle.std.proofs.lemmas.List.Folds.{flat_map-map}
 use Rattle.action.specs.declared.orders.Action.{Action}
 use Rattle.action.specs.Bytes.{action_bytes}
 use Rattle.message.proofs.Buffers.{written_then}
@@ -10,20 +12,12 @@ use Rattle.message.specs.declared.records.Record.TheVariants as RecordKinds
 use Rattle.message.specs.Buffer.{overwritten}
 use Rattle.message.specs.Format.{Message, Section, format, head_of, header_bytes, header_of, interval_bytes, record_bytes, section_bytes, section_format, section_records}
 
-pub joined_append : {X A : Type 0} (f : X → List A) (xs ys : List X) → flat_map f (xs ++ ys) ≡ flat_map f xs ++ flat_map f ys
-joined_append f [] ys = refl
-joined_append f (x ∷ xs) ys = ap (λ l. f x ++ l) (joined_append f xs ys) ∙ sym (append_assoc (f x) (flat_map f xs) (flat_map f ys))
-
 pub joined_push : {X A : Type 0} (f : X → List A) (xs : List X) (x : X) → flat_map f (xs ++ (x ∷ [])) ≡ flat_map f xs ++ f x
-joined_push f xs x = joined_append f xs (x ∷ []) ∙ ap (λ l. flat_map f xs ++ l) (append-nil (f x))
-
-pub joined_map : {X Y A : Type 0} (f : Y → List A) (g : X → Y) (xs : List X) → flat_map f (map g xs) ≡ flat_map (λ x. f (g x)) xs
-joined_map f g [] = refl
-joined_map f g (x ∷ xs) = ap (λ l. f (g x) ++ l) (joined_map f g xs)
+joined_push f xs x = flat_map-append f xs (x ∷ []) ∙ ap (λ l. flat_map f xs ++ l) (append-nil (f x))
 
 pub joined_joined : {X Y A : Type 0} (f : Y → List A) (g : X → List Y) (xs : List X) → flat_map f (flat_map g xs) ≡ flat_map (λ x. flat_map f (g x)) xs
 joined_joined f g [] = refl
-joined_joined f g (x ∷ xs) = joined_append f (g x) (flat_map g xs) ∙ ap (λ l. flat_map f (g x) ++ l) (joined_joined f g xs)
+joined_joined f g (x ∷ xs) = flat_map-append f (g x) (flat_map g xs) ∙ ap (λ l. flat_map f (g x) ++ l) (joined_joined f g xs)
 
 -- parts of one length
 pub length_joined : {X A : Type 0} (f : X → List A) (k : ℕ) → ((x : X) → length (f x) ≡ k) → (xs : List X) → length (flat_map f xs) ≡ k * length xs
@@ -35,7 +29,7 @@ body_bytes intervals actions = flat_map interval_bytes intervals ++ flat_map act
 
 pub section_is : (s : Section) → section_format s ≡ section_bytes (head_of s) ++ body_bytes s.intervals s.actions
 section_is s =
-    ap (λ l. section_bytes (head_of s) ++ l) (joined_append record_bytes (map RecordKinds.Interval s.intervals) (map RecordKinds.Action s.actions) ∙ (λ i. joined_map record_bytes RecordKinds.Interval s.intervals i ++ joined_map record_bytes RecordKinds.Action s.actions i))
+    ap (λ l. section_bytes (head_of s) ++ l) (flat_map-append record_bytes (map RecordKinds.Interval s.intervals) (map RecordKinds.Action s.actions) ∙ (λ i. flat_map-map record_bytes RecordKinds.Interval s.intervals i ++ flat_map-map record_bytes RecordKinds.Action s.actions i))
 
 pub length_body : (intervals : List Interval) (actions : List Action) → length (body_bytes intervals actions) ≡ 10 * length intervals + 16 * length actions
 length_body intervals actions =

@@ -1,5 +1,6 @@
 -- Whole messages: their records are read to the end just where they are lawful. Assumes nothing.
-use Rattle.std.proofs.Common.{◌≡◌, ℕ, zero, suc, ◌<◌, ◌≤◌, true, cond, ◌&&◌, eqb, ltb, leb, List, [], ◌∷◌, ◌++◌, map, length, Some, fold, sum_by, count_by, sym, refl, ap, ◌∙◌, arith}
+use Rattle.std.proofs.Common.{◌≡◌, ℕ, zero, suc, ◌<◌, ◌≤◌, true, cond, ◌&&◌, eqb, ltb, leb, List, [], ◌∷◌, ◌++◌, map, length, Some, Ok, Err, fold, sum_by, count_by, sym, refl, ap, ◌∙◌, arith}
+use Rattle.std.proofs.lemmas.List.Sums.{fold-append}
 use Rattle.std.specs.List.{flat_map, AllByRecursion}
 use Rattle.std.proofs.ByRecursion.{All-map, All-weaker}
 use Rattle.std.proofs.lemmas.List.Sums.{sum_by-append, sum_by-cons}
@@ -9,7 +10,7 @@ use Rattle.action.specs.declared.setups.Setup.{Setup}
 use Rattle.kind.specs.Meaning.{Meaning}
 use Rattle.message.specs.declared.reading.Due.{Due}
 use Rattle.message.specs.declared.reading.Progress.{Progress}
-use Rattle.message.specs.declared.reading.Verdict.TheVariants.{Passed, Foreign, Broken}
+use Rattle.message.specs.declared.faults.Flaw.TheVariants.{Foreign, Broken}
 use Rattle.message.specs.declared.records.Header.{Header}
 use Rattle.message.specs.declared.records.Interval.{Interval}
 use Rattle.message.specs.declared.records.Record.{Record}
@@ -23,7 +24,6 @@ use Rattle.message.proofs.SectionIntervals.{all_from_map}
 use Rattle.message.proofs.Onward.{first_on, header_on, some_same}
 use Rattle.message.proofs.Sections.{after_all, due_next, next_article, read_section, section_reads, sections_left}
 use Rattle.message.proofs.Steps.{onward_passes}
-use Rattle.message.proofs.Stretches.{folded_append}
 
 -- SECTIONS
 
@@ -75,7 +75,7 @@ module _ (kind : Meaning) (setup : Setup) where
       let next = All-weaker (λ t. s.article < t.article) (λ t. q.next_article ≤ t.article) (λ t k. omega (arith, next_article kind setup p s some-intervals)) ss above in
       let here = section_reads kind setup p (due_section p so (omega arith)) s lawful.0 least.0 in
       let more = sections_read ss q (left ∙ omega arith) (due_next kind setup p s some-intervals ∙ ap (due_after 0 0) (sym left)) lawful.1 next up.1 in
-      (more.0, folded_append (onward kind setup) (Some p) (section_records s) (flat_map section_records ss) ∙ ap (λ o. fold (onward kind setup) o (flat_map section_records ss)) here ∙ more.1, more.2)
+      (more.0, fold-append (onward kind setup) (Some p) (section_records s) (flat_map section_records ss) ∙ ap (λ o. fold (onward kind setup) o (flat_map section_records ss)) here ∙ more.1, more.2)
 
 -- MESSAGES
 
@@ -100,7 +100,7 @@ module _ (kind : Meaning) (setup : Setup) where
 
   -- records that are read to the end are those of a lawful message
   pub reads_lawful : (rs : List Record) (e : Progress) → reading kind setup rs ≡ Some e → AllByRecursion Fitting rs → e.due ≡ Due.End → (m : Message) × LawfulMessage kind setup m × (records m ≡ rs)
-  reads_lawful [] e h fits end = absurd (let z : Due.Header ≡ Due.End = ap (λ q. q.due) (some_same start e h) ∙ end in let n : ◌≡◌ {A = ℕ} 0 1 = cc in omega arith)
+  reads_lawful [] e h fits end = absurd (let z : Due.Header ≡ Due.End = ap (λ q. q.due) (some_same start e h) ∙ end in cc)
   reads_lawful (r ∷ rs) e read fits end =
       let f = first_on kind setup start e r rs read in
       let t = header_on kind setup start f.next r f.was_due f.passes in
@@ -122,7 +122,7 @@ module _ (kind : Meaning) (setup : Setup) where
       let ss = m.sections in
       let p = after_header start h in
       let passes = header_passes h (record { of_group = l.of_group; of_kind = l.of_kind; some = l.some; few = l.few; sent = l.sent }) in
-      let first = onward_passes kind setup start p (RecordKinds.Header h) refl (cond-true (named kind setup h) (cond (lawful_header setup h) (Passed p) Broken) Foreign passes.0 ∙ cond-true (lawful_header setup h) (Passed p) Broken passes.1) in
+      let first = onward_passes kind setup start p (RecordKinds.Header h) refl (cond-true (named kind setup h) (cond (lawful_header setup h) (Ok p) (Err Broken)) (Err Foreign) passes.0 ∙ cond-true (lawful_header setup h) (Ok p) (Err Broken) passes.1) in
       let due = sym (cond-true (ltb 0 (length ss)) Due.Section Due.End (lt-ltb 0 (length ss) l.some)) in
       let more = sections_read kind setup ss p refl due l.sections (All-weaker (LawfulSection kind setup) (λ s. 0 ≤ s.article) (λ s k. omega arith) ss l.sections) l.rising in
       (more.0, ap (λ o. fold (onward kind setup) o (flat_map section_records ss)) first ∙ more.1, more.2)

@@ -1,12 +1,12 @@
 -- A record that was read has the bytes that it was read from. Assumes nothing.
-use Rattle.std.proofs.Common.{◌≡◌, ℕ, zero, suc, ◌+◌, ◌^◌, ◌<◌, ◌≤◌, Bool, true, false, cond, eqb, leb, List, [], ◌∷◌, ◌++◌, map, length, get_or, drop, sym, refl, ap, ◌∙◌, subst, arith, w32, to_z, of_z}
+use Rattle.std.proofs.Common.{◌≡◌, ℕ, zero, suc, ◌+◌, ◌^◌, ◌<◌, ◌≤◌, Bool, true, false, cond, eqb, leb, List, [], ◌∷◌, ◌++◌, map, length, get_or, drop, Some, None, Ok, Err, sym, refl, ap, ◌∙◌, subst, arith, w32, to_z, of_z}
 use mir.Facts.{sfits_to_z}
 use Rattle.std.specs.List.{range_with_len}
 use Rattle.std.proofs.lemmas.List.{drop_more}
 use Rattle.std.proofs.lemmas.Int.{of_z-to_z}
 use Rattle.std.proofs.lemmas.Bool.{and_parts, eqb-true, leb-true}
 use Rattle.action.specs.Bytes.{action_bytes, action_of, bytes_of, number4}
-use Rattle.message.specs.declared.decodes.Decoded.TheVariants.{Whole, Cut, Finished, Trailing}
+use Rattle.message.specs.declared.faults.Flaw.TheVariants.{Cut, Trailing}
 use Rattle.message.specs.declared.reading.Due.{Due}
 use Rattle.message.specs.declared.records.Record.{Record}
 use Rattle.message.specs.Decoding.{begins, decoded, header_in, interval_in, number2, section_in}
@@ -78,11 +78,11 @@ module _ (bs : List ℕ) (bytes : (i : ℕ) → get_or bs i 0 < 256) where
   abbrev Back : Due → Record → Type 0
   Back d r = (is_due d r ≡ true) × Fitting r × (bs ≡ record_bytes r ++ drop (length (record_bytes r)) bs)
 
-  chosen : (b : Bool) (x : Record) (r : Record) → cond b (Whole x) Cut ≡ Whole r → (b ≡ true) × (x ≡ r)
+  chosen : (b : Bool) (x : Record) (r : Record) → cond b (Ok (Some x)) (Err Cut) ≡ Ok (Some r) → (b ≡ true) × (x ≡ r)
   chosen true x r h = (refl, cc)
-  chosen false x r h = absurd (let z : ◌≡◌ {A = ℕ} 0 1 = cc in omega arith)
+  chosen false x r h = cc
 
-  pub whole_back : (d : Due) (r : Record) → decoded d bs ≡ Whole r → Back d r
+  pub whole_back : (d : Due) (r : Record) → decoded d bs ≡ Ok (Some r) → Back d r
   whole_back Due.Header r h =
       let c = chosen _ _ r h in
       let t = told 0x48 6 c.0 in
@@ -101,6 +101,6 @@ module _ (bs : List ℕ) (bytes : (i : ℕ) → get_or bs i 0 < 256) where
       subst (Back Due.Action) c.1 (refl, action_fits, action_back t.0 t.1)
   whole_back Due.End r h = absurd (never (eqb (length bs) 0) h)
     where
-      never : (b : Bool) → cond b Finished Trailing ≡ Whole r → ⊥
-      never true e = let z : ◌≡◌ {A = ℕ} 0 1 = cc in omega arith
-      never false e = let z : ◌≡◌ {A = ℕ} 0 1 = cc in omega arith
+      never : (b : Bool) → cond b (Ok None) (Err Trailing) ≡ Ok (Some r) → ⊥
+      never true e = cc
+      never false e = cc

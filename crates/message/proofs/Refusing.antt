@@ -1,74 +1,74 @@
 -- What a refused step tells of the rest of the bytes. Assumes nothing.
-use Rattle.std.proofs.Common.{◌≡◌, ℕ, ◌<◌, ◌≤◌, Bool, true, false, cond, eqb, List, [], length, get_or, drop, None, sym, refl, ap, ◌∙◌, subst, arith}
+use Rattle.std.proofs.Common.{◌≡◌, ℕ, ◌<◌, ◌≤◌, Bool, true, false, cond, eqb, ◌⊎◌, List, [], length, get_or, drop, Some, None, Ok, Err, Option, Result, sym, refl, ap, ◌∙◌, subst, inl, inr, ⊎_elim, arith}
+use Rattle.std.specs.Result.{result_ok}
 use Rattle.std.proofs.lemmas.List.{nil_from_length}
 use Rattle.std.proofs.lemmas.Bool.{and_from, and_parts, both_ways, eq-eqb, eqb-false, eqb-true, false≢true}
-use Rattle.action.specs.declared.refusals.Refusal.{Refusal}
 use Rattle.action.specs.declared.setups.Setup.{Setup}
 use Rattle.kind.specs.Meaning.{Meaning}
-use Rattle.message.specs.declared.decodes.Decoded.{Decoded}
-use Rattle.message.specs.declared.decodes.Decoded.TheVariants.{Whole, Cut, Finished, Trailing}
+use Rattle.message.specs.declared.faults.Flaw.{Flaw}
+use Rattle.message.specs.declared.faults.Flaw.TheVariants.{Cut, Foreign, Broken, Trailing}
+use Rattle.message.specs.declared.faults.ReaderFault.{ReaderFault}
 use Rattle.message.specs.declared.reading.Due.{Due}
 use Rattle.message.specs.declared.reading.Progress.{Progress}
-use Rattle.message.specs.declared.reading.Verdict.{Verdict}
-use Rattle.message.specs.declared.reading.Verdict.TheVariants.{Passed, Foreign, Broken}
 use Rattle.message.specs.declared.records.Header.{Header}
 use Rattle.message.specs.declared.records.Record.{Record}
 use Rattle.message.specs.declared.records.Record.TheVariants as RecordKinds
 use Rattle.message.specs.Checks.{Named, Reason, StartsWith, bytes_follow, no_record, other_table, rule_broken}
 use Rattle.message.specs.Decoding.{decoded}
+use Rattle.message.specs.Faults.{fault_at, shown}
 use Rattle.message.specs.Fields.{Fitting}
 use Rattle.message.specs.Format.{record_bytes}
 use Rattle.message.specs.Progress.{admitted, after_header, lawful_header, named}
-use Rattle.message.specs.Reading.{ended, granted, is_due, judged, refused, step, stepped}
+use Rattle.message.specs.Reading.{Step, is_due, judged, step, stepped}
 use Rattle.message.proofs.Decodings.{decoded_format}
+use Rattle.message.proofs.Onward.{not_none}
 use Rattle.message.proofs.Recoding.{whole_back}
 
 -- WHAT IS DECODED
 
--- a record or none, and never the end
-whole_or : (b : Bool) (x : Record) (d : Decoded) → cond b (Whole x) Cut ≡ d → (d ≡ Finished → ⊥) × (d ≡ Trailing → ⊥)
-whole_or true x d h = (λ k. let z : ◌≡◌ {A = ℕ} 0 1 = cc in omega arith, λ k. let z : ◌≡◌ {A = ℕ} 0 1 = cc in omega arith)
-whole_or false x d h = (λ k. let z : ◌≡◌ {A = ℕ} 0 1 = cc in omega arith, λ k. let z : ◌≡◌ {A = ℕ} 0 1 = cc in omega arith)
+-- what a test between a record, or the end, and a flaw tells
+flawed : (b : Bool) (o : Option Record) (f g : Flaw) → cond b (Ok o) (Err f) ≡ Err g → (b ≡ false) × (f ≡ g)
+flawed true o f g h = cc
+flawed false o f g h = (refl, cc)
 
-end_or : (b : Bool) (d : Decoded) → cond b Finished Trailing ≡ d → (d ≡ Cut → ⊥) × (d ≡ Finished → b ≡ true) × (d ≡ Trailing → b ≡ false)
-end_or true d h = (λ k. let z : ◌≡◌ {A = ℕ} 0 1 = cc in omega arith, λ k. refl, λ k. absurd (let z : ◌≡◌ {A = ℕ} 0 1 = cc in omega arith))
-end_or false d h = (λ k. let z : ◌≡◌ {A = ℕ} 0 1 = cc in omega arith, λ k. absurd (let z : ◌≡◌ {A = ℕ} 0 1 = cc in omega arith), λ k. refl)
+flawless : (b : Bool) (o q : Option Record) (f : Flaw) → cond b (Ok o) (Err f) ≡ Ok q → (b ≡ true) × (o ≡ q)
+flawless true o q f h = (refl, cc)
+flawless false o q f h = cc
 
 module _ (bs : List ℕ) where
-  pub finished_told : (d : Due) → decoded d bs ≡ Finished → (d ≡ Due.End) × (bs ≡ [])
-  finished_told Due.Header h = absurd ((whole_or _ _ _ refl).0 h)
-  finished_told Due.Section h = absurd ((whole_or _ _ _ refl).0 h)
-  finished_told Due.Interval h = absurd ((whole_or _ _ _ refl).0 h)
-  finished_told Due.Action h = absurd ((whole_or _ _ _ refl).0 h)
-  finished_told Due.End h = (refl, nil_from_length bs (eqb-true _ _ ((end_or (eqb (length bs) 0) _ refl).1 h)))
+  pub finished_told : (d : Due) → decoded d bs ≡ Ok None → (d ≡ Due.End) × (bs ≡ [])
+  finished_told Due.Header h = absurd (not_none _ (sym (flawless _ _ _ _ h).1))
+  finished_told Due.Section h = absurd (not_none _ (sym (flawless _ _ _ _ h).1))
+  finished_told Due.Interval h = absurd (not_none _ (sym (flawless _ _ _ _ h).1))
+  finished_told Due.Action h = absurd (not_none _ (sym (flawless _ _ _ _ h).1))
+  finished_told Due.End h = (refl, nil_from_length bs (eqb-true _ _ (flawless _ _ _ _ h).0))
 
-  pub trailing_told : (d : Due) → decoded d bs ≡ Trailing → (d ≡ Due.End) × (1 ≤ length bs)
-  trailing_told Due.Header h = absurd ((whole_or _ _ _ refl).1 h)
-  trailing_told Due.Section h = absurd ((whole_or _ _ _ refl).1 h)
-  trailing_told Due.Interval h = absurd ((whole_or _ _ _ refl).1 h)
-  trailing_told Due.Action h = absurd ((whole_or _ _ _ refl).1 h)
-  trailing_told Due.End h = let some : length bs ≡ 0 → ⊥ = eqb-false (length bs) 0 ((end_or (eqb (length bs) 0) _ refl).2 h) in (refl, omega arith)
+  -- where a record is due, the flaw is that there is none; where the end is due, that bytes follow
+  pub flaw_told : (d : Due) (f : Flaw) → decoded d bs ≡ Err f → (Cut ≡ f) ⊎ ((Trailing ≡ f) × (d ≡ Due.End) × (1 ≤ length bs))
+  flaw_told Due.Header f h = inl (flawed _ _ _ _ h).1
+  flaw_told Due.Section f h = inl (flawed _ _ _ _ h).1
+  flaw_told Due.Interval f h = inl (flawed _ _ _ _ h).1
+  flaw_told Due.Action f h = inl (flawed _ _ _ _ h).1
+  flaw_told Due.End f h = let k = flawed _ _ _ _ h in let some : length bs ≡ 0 → ⊥ = eqb-false (length bs) 0 k.0 in inr (k.1, refl, omega arith)
 
-  pub cut_told : (d : Due) → decoded d bs ≡ Cut → (d ≡ Due.End → ⊥) × ((r : Record) → is_due d r ≡ true → Fitting r → StartsWith bs r → ⊥)
+  pub cut_told : (d : Due) → decoded d bs ≡ Err Cut → (d ≡ Due.End → ⊥) × ((r : Record) → is_due d r ≡ true → Fitting r → StartsWith bs r → ⊥)
   cut_told d h = (
-    λ is. (end_or (eqb (length bs) 0) (decoded Due.End bs) refl).0 (ap (λ x. decoded x bs) (sym is) ∙ h),
-    λ r was fits s. let z : Whole r ≡ Cut = sym (decoded_format s.0 d r was fits) ∙ ap (decoded d) (sym s.1) ∙ h in let n : ◌≡◌ {A = ℕ} 0 1 = cc in omega arith,
+    λ is. let z : Trailing ≡ Cut = (flawed _ _ _ _ (ap (λ x. decoded x bs) (sym is) ∙ h)).1 in cc,
+    λ r was fits s. let z : ◌≡◌ {A = Result (Option Record) Flaw} (Ok (Some r)) (Err Cut) = sym (decoded_format s.0 d r was fits) ∙ ap (decoded d) (sym s.1) ∙ h in cc,
   )
 
 -- WHAT THE RULES SAY
 
-header_foreign : (a b : Bool) (p : Progress) → cond a (cond b (Passed p) Broken) Foreign ≡ Foreign → a ≡ false
-header_foreign true true p h = absurd (let z : ◌≡◌ {A = ℕ} 0 1 = cc in omega arith)
-header_foreign true false p h = absurd (let z : ◌≡◌ {A = ℕ} 0 1 = cc in omega arith)
-header_foreign false b p h = refl
+-- what the tests of a header tell
+header_flawed : (a b : Bool) (p : Progress) (f : Flaw) → cond a (cond b (Ok p) (Err Broken)) (Err Foreign) ≡ Err f → ((a ≡ false) × (Foreign ≡ f)) ⊎ ((a ≡ true) × (Broken ≡ f))
+header_flawed true true p f h = cc
+header_flawed true false p f h = inr (refl, cc)
+header_flawed false b p f h = inl (refl, cc)
 
-header_broken : (a b : Bool) (p : Progress) → cond a (cond b (Passed p) Broken) Foreign ≡ Broken → a ≡ true
-header_broken true b p h = refl
-header_broken false b p h = absurd (let z : ◌≡◌ {A = ℕ} 0 1 = cc in omega arith)
-
-never_foreign : (b : Bool) (p : Progress) → cond b (Passed p) Broken ≡ Foreign → ⊥
-never_foreign true p h = let z : ◌≡◌ {A = ℕ} 0 1 = cc in omega arith
-never_foreign false p h = let z : ◌≡◌ {A = ℕ} 0 1 = cc in omega arith
+-- and the test of any other record
+other_flawed : (b : Bool) (p : Progress) (f : Flaw) → cond b (Ok p) (Err Broken) ≡ Err f → Broken ≡ f
+other_flawed true p f h = cc
+other_flawed false p f h = cc
 
 header_due : (d : Due) (h : Header) → is_due d (RecordKinds.Header h) ≡ true → d ≡ Due.Header
 header_due Due.Header h is = refl
@@ -85,49 +85,51 @@ module _ (kind : Meaning) (setup : Setup) where
   not_named h e n = both_ways (named kind setup h) e (and_from _ _ (eq-eqb _ _ n.0) (eq-eqb _ _ n.1))
 
   module _ (p : Progress) where
-    foreign_told : (r : Record) → is_due p.due r ≡ true → admitted kind setup p r ≡ Foreign → (h : Header) × (r ≡ RecordKinds.Header h) × (p.due ≡ Due.Header) × (Named kind setup h → ⊥)
-    foreign_told (RecordKinds.Header h) is so = (h, refl, header_due p.due h is, not_named h (header_foreign (named kind setup h) (lawful_header setup h) (after_header p h) so))
-    foreign_told (RecordKinds.Section s) is so = absurd (never_foreign _ _ so)
-    foreign_told (RecordKinds.Interval i) is so = absurd (never_foreign _ _ so)
-    foreign_told (RecordKinds.Action x) is so = absurd (never_foreign _ _ so)
-
-    broken_told : (r : Record) → admitted kind setup p r ≡ Broken → (h : Header) → r ≡ RecordKinds.Header h → Named kind setup h
-    broken_told r so h same = named_told h (header_broken (named kind setup h) (lawful_header setup h) (after_header p h) (ap (admitted kind setup p) (sym same) ∙ so))
+    -- a refused record is a header of another group or kind, or it breaks a rule and is no such header
+    refused_told : (r : Record) (f : Flaw) → is_due p.due r ≡ true → admitted kind setup p r ≡ Err f → ((Foreign ≡ f) × ((h : Header) × (r ≡ RecordKinds.Header h) × (p.due ≡ Due.Header) × (Named kind setup h → ⊥))) ⊎ ((Broken ≡ f) × ((h : Header) → r ≡ RecordKinds.Header h → Named kind setup h))
+    refused_told (RecordKinds.Header h) f is so =
+        ⊎_elim
+        (λ k. inl (k.1, (h, refl, header_due p.due h is, not_named h k.0)))
+        (λ k. inr (k.1, λ g same. let e : h ≡ g = cc in named_told g (ap (named kind setup) (sym e) ∙ k.0)))
+        (header_flawed (named kind setup h) (lawful_header setup h) (after_header p h) f so)
+    refused_told (RecordKinds.Section s) f is so = inr (other_flawed _ _ f so, λ h same. cc)
+    refused_told (RecordKinds.Interval i) f is so = inr (other_flawed _ _ f so, λ h same. cc)
+    refused_told (RecordKinds.Action x) f is so = inr (other_flawed _ _ f so, λ h same. cc)
 
     -- a step that is refused has one of the four reasons
-    pub reason : (at : ℕ) (rest : List ℕ) (why : Refusal) → ((i : ℕ) → get_or rest i 0 < 256) → step kind setup p at rest ≡ refused why → Reason kind setup p at rest why
+    pub reason : (at : ℕ) (rest : List ℕ) (why : ReaderFault) → ((i : ℕ) → get_or rest i 0 < 256) → step kind setup p at rest ≡ Err why → Reason kind setup p at rest (shown why)
     reason at rest why bytes h = by_decoded (decoded p.due rest) refl h
       where
-        same_refusal : (r : Refusal) → refused r ≡ refused why → why ≡ r
-        same_refusal r e = cc
+        why_is : (f g : Flaw) → f ≡ g → ◌≡◌ {A = Step} (Err (fault_at at g)) (Err why) → shown why ≡ shown (fault_at at f)
+        why_is f g is e = let same : why ≡ fault_at at g = cc in ap shown (same ∙ ap (fault_at at) (sym is))
 
-        by_verdict : (r : Record) → decoded p.due rest ≡ Whole r → (v : Verdict) → admitted kind setup p r ≡ v → judged at r v ≡ refused why → Reason kind setup p at rest why
-        by_verdict r is (Passed q) so e = absurd (let z : ◌≡◌ {A = ℕ} 0 1 = cc in omega arith)
-        by_verdict r is Foreign so e =
+        by_verdict : (r : Record) → decoded p.due rest ≡ Ok (Some r) → (v : Result Progress Flaw) → admitted kind setup p r ≡ v → judged at r v ≡ Err why → Reason kind setup p at rest (shown why)
+        by_verdict r is (Ok q) so e = cc
+        by_verdict r is (Err f) so e =
             let back = whole_back rest bytes p.due r is in
-            let t = foreign_told r back.0 so in
-            other_table (record { is = same_refusal _ e; first = t.2; header = t.0; fitting = subst Fitting t.1 back.1; starts = subst (StartsWith rest) t.1 (drop (length (record_bytes r)) rest, back.2); other = t.3 })
-        by_verdict r is Broken so e =
-            let back = whole_back rest bytes p.due r is in
-            rule_broken (record { is = same_refusal _ e; broken = r; was_due = back.0; fitting = back.1; starts = (drop (length (record_bytes r)) rest, back.2); ours = broken_told r so; stops = ap (λ b. cond b (granted (admitted kind setup p r)) None) back.0 ∙ ap granted so })
+            ⊎_elim
+            (λ k. other_table (record { is = why_is Foreign f k.0 e; first = k.1.2; header = k.1.0; fitting = subst Fitting k.1.1 back.1; starts = subst (StartsWith rest) k.1.1 (drop (length (record_bytes r)) rest, back.2); other = k.1.3 }))
+            (λ k. rule_broken (record { is = why_is Broken f k.0 e; broken = r; was_due = back.0; fitting = back.1; starts = (drop (length (record_bytes r)) rest, back.2); ours = k.1; stops = ap (λ b. cond b (result_ok (admitted kind setup p r)) None) back.0 ∙ ap result_ok so }))
+            (refused_told r f back.0 so)
 
-        by_decoded : (d : Decoded) → decoded p.due rest ≡ d → stepped kind setup p at d ≡ refused why → Reason kind setup p at rest why
-        by_decoded (Whole r) is e = by_verdict r is (admitted kind setup p r) refl e
-        by_decoded Cut is e = let t = cut_told rest p.due is in no_record (record { is = same_refusal _ e; not_ended = t.0; none = t.1 })
-        by_decoded Finished is e = absurd (let z : ◌≡◌ {A = ℕ} 0 1 = cc in omega arith)
-        by_decoded Trailing is e = let t = trailing_told rest p.due is in bytes_follow (record { is = same_refusal _ e; ended = t.0; more = t.1 })
+        by_decoded : (d : Result (Option Record) Flaw) → decoded p.due rest ≡ d → stepped kind setup p at d ≡ Err why → Reason kind setup p at rest (shown why)
+        by_decoded (Ok (Some r)) is e = by_verdict r is (admitted kind setup p r) refl e
+        by_decoded (Ok None) is e = cc
+        by_decoded (Err f) is e =
+            ⊎_elim
+            (λ k. let t = cut_told rest p.due (is ∙ ap Err (sym k)) in no_record (record { is = why_is Cut f k e; not_ended = t.0; none = t.1 }))
+            (λ k. bytes_follow (record { is = why_is Trailing f k.0 e; ended = k.1; more = k.2 }))
+            (flaw_told rest p.due f is)
 
     -- a step that ended had the end due, and no bytes left
-    pub ended_told : (at : ℕ) (rest : List ℕ) → step kind setup p at rest ≡ ended → (p.due ≡ Due.End) × (rest ≡ [])
+    pub ended_told : (at : ℕ) (rest : List ℕ) → step kind setup p at rest ≡ Ok None → (p.due ≡ Due.End) × (rest ≡ [])
     ended_told at rest h = finished_told rest p.due (by_decoded (decoded p.due rest) h)
       where
-        by_verdict : (r : Record) (v : Verdict) → judged at r v ≡ ended → Whole r ≡ Finished
-        by_verdict r (Passed q) e = absurd (let z : ◌≡◌ {A = ℕ} 0 1 = cc in omega arith)
-        by_verdict r Foreign e = absurd (let z : ◌≡◌ {A = ℕ} 0 1 = cc in omega arith)
-        by_verdict r Broken e = absurd (let z : ◌≡◌ {A = ℕ} 0 1 = cc in omega arith)
+        by_verdict : (r : Record) (v : Result Progress Flaw) → judged at r v ≡ Ok None → (◌≡◌ {A = Result (Option Record) Flaw} (Ok (Some r)) (Ok None))
+        by_verdict r (Ok q) e = cc
+        by_verdict r (Err f) e = cc
 
-        by_decoded : (d : Decoded) → stepped kind setup p at d ≡ ended → d ≡ Finished
-        by_decoded (Whole r) e = by_verdict r (admitted kind setup p r) e
-        by_decoded Cut e = absurd (let z : ◌≡◌ {A = ℕ} 0 1 = cc in omega arith)
-        by_decoded Finished e = refl
-        by_decoded Trailing e = absurd (let z : ◌≡◌ {A = ℕ} 0 1 = cc in omega arith)
+        by_decoded : (d : Result (Option Record) Flaw) → stepped kind setup p at d ≡ Ok None → d ≡ Ok None
+        by_decoded (Ok (Some r)) e = by_verdict r (admitted kind setup p r) e
+        by_decoded (Ok None) e = refl
+        by_decoded (Err f) e = cc

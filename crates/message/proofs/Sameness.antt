@@ -1,5 +1,5 @@
 -- A message is known by its records, and those of a lawful one fit their bytes. Assumes nothing.
-use Rattle.std.proofs.Common.{◌≡◌, ℕ, ◌≤◌, List, [], ◌∷◌, ◌++◌, map, length, sym, refl, ap, ◌∙◌, arith}
+use Rattle.std.proofs.Common.{◌≡◌, ◌≤◌, List, [], ◌∷◌, ◌++◌, map, length, sym, refl, ap, ◌∙◌, arith}
 use Rattle.std.specs.List.{flat_map, AllByRecursion}
 use Rattle.std.proofs.ByRecursion.{All-append, all-has, All-map, All-weaker}
 use Rattle.std.proofs.lemmas.List.{append_assoc, length-map}
@@ -27,8 +27,8 @@ append_same (x ∷ xs) (y ∷ ys) us vs long same =
 
 pub map_same : {X Y : Type 0} (f : X → Y) → ((x y : X) → f x ≡ f y → x ≡ y) → (xs ys : List X) → map f xs ≡ map f ys → xs ≡ ys
 map_same f one [] [] same = refl
-map_same f one [] (y ∷ ys) same = absurd (let z : ◌≡◌ {A = ℕ} 0 1 = cc in omega arith)
-map_same f one (x ∷ xs) [] same = absurd (let z : ◌≡◌ {A = ℕ} 0 1 = cc in omega arith)
+map_same f one [] (y ∷ ys) same = cc
+map_same f one (x ∷ xs) [] same = cc
 map_same f one (x ∷ xs) (y ∷ ys) same =
     let head : f x ≡ f y = cc in
     let tail : map f xs ≡ map f ys = cc in
@@ -56,8 +56,8 @@ section_same s t rs qs same =
 
 sections_same : (ss ts : List Section) → flat_map section_records ss ≡ flat_map section_records ts → ss ≡ ts
 sections_same [] [] same = refl
-sections_same [] (t ∷ ts) same = absurd (let z : ◌≡◌ {A = ℕ} 0 1 = cc in omega arith)
-sections_same (s ∷ ss) [] same = absurd (let z : ◌≡◌ {A = ℕ} 0 1 = cc in omega arith)
+sections_same [] (t ∷ ts) same = cc
+sections_same (s ∷ ss) [] same = cc
 sections_same (s ∷ ss) (t ∷ ts) same =
     let both = section_same s t (flat_map section_records ss) (flat_map section_records ts) same in
     λ i. both.0 i ∷ sections_same ss ts both.1 i

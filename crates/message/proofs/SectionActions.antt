@@ -1,5 +1,5 @@
 -- A section's actions: the test of each after those before it, and what all of them keep. Assumes nothing.
-use Rattle.std.proofs.Common.{◌≡◌, ℕ, ◌≤◌, true, cond, ◌&&◌, eqb, ltb, leb, List, [], ◌∷◌, get_or, sym, refl, ap, ◌∙◌, arith}
+use Rattle.std.proofs.Common.{◌≡◌, Ok, Err, ℕ, ◌≤◌, true, cond, ◌&&◌, eqb, ltb, leb, List, [], ◌∷◌, get_or, sym, refl, ap, ◌∙◌}
 use Rattle.std.specs.List.{AllByRecursion}
 use Rattle.std.proofs.lemmas.Bool.{and_from, and_parts, cond-true, eq-eqb, eqb-true, le-leb, leb-true, lt-ltb}
 use Rattle.action.specs.declared.orders.Action.{Action}
@@ -11,7 +11,7 @@ use Rattle.kind.specs.Working.{knows_action}
 use Rattle.message.specs.declared.reading.Due.{Due}
 use Rattle.message.specs.declared.reading.Progress.{Progress}
 use Rattle.message.specs.declared.reading.Span.{Span}
-use Rattle.message.specs.declared.reading.Verdict.TheVariants.{Passed, Broken}
+use Rattle.message.specs.declared.faults.Flaw.TheVariants.{Broken}
 use Rattle.message.specs.declared.records.Record.TheVariants as RecordKinds
 use Rattle.message.specs.Progress.{after_action, carries, due_after, lawful_action, no_span}
 use Rattle.message.specs.Reading.{is_due}
@@ -32,8 +32,8 @@ module _ (kind : Meaning) (setup : Setup) where
   pub actions_stretch : Stretch kind setup RecordKinds.Action (lawful_action kind) after_action (λ p. p.actions) ActionsReady
   actions_stretch = record {
     takes = λ p q r so some is passes. action_on kind setup p q r (ap (λ d. is_due d r) (sym (due_action p so some)) ∙ is) passes;
-    leads = λ p x so some test. onward_passes kind setup p (after_action p x) (RecordKinds.Action x) (ap (λ d. is_due d (RecordKinds.Action x)) (due_action p so some)) (cond-true (lawful_action kind p x) (Passed (after_action p x)) Broken test);
-    goes_on = λ p so some end. let z : Due.Action ≡ Due.End = sym (due_action p so some) ∙ end in let e : ◌≡◌ {A = ℕ} 0 1 = cc in omega arith;
+    leads = λ p x so some test. onward_passes kind setup p (after_action p x) (RecordKinds.Action x) (ap (λ d. is_due d (RecordKinds.Action x)) (due_action p so some)) (cond-true (lawful_action kind p x) (Ok (after_action p x)) (Err Broken) test);
+    goes_on = λ p so some end. let z : Due.Action ≡ Due.End = sym (due_action p so some) ∙ end in cc;
     fewer = λ p x. refl;
     ready = λ p x so. refl;
   }

@@ -1,15 +1,16 @@
 -- A section's intervals: the test of each after those before it, and what all of them keep. Assumes nothing.
-use Rattle.std.proofs.Common.{◌≡◌, ℕ, zero, suc, ◌+◌, ◌<◌, ◌≤◌, true, cond, ◌&&◌, ltb, leb, ◌⊎◌, List, [], ◌∷◌, map, length, get_or, set, fold, sym, refl, ap, ◌∙◌, subst, inl, inr, arith}
+use Rattle.std.proofs.Common.{◌≡◌, Ok, Err, ℕ, zero, suc, ◌+◌, ◌<◌, ◌≤◌, true, cond, ◌&&◌, ltb, leb, ◌⊎◌, List, [], ◌∷◌, map, length, get_or, set, fold, sym, refl, ap, ◌∙◌, subst, inl, inr, arith}
 use Rattle.std.specs.List.{ContainsAt as Has, AllByRecursion}
 use Rattle.std.proofs.ByRecursion.{All-map, All-weaker}
 use Rattle.std.proofs.lemmas.List.{get_or-set_other, get_or-set_same, length-set, set_past}
 use Rattle.std.proofs.lemmas.Bool.{and_from, and_parts, cases_eq, cases_lt, cond-true, le-leb, leb-true, lt-ltb, ltb-true}
 use Rattle.action.specs.declared.setups.Setup.{Setup}
+use Rattle.action.proofs.Members.{has_first, has_later}
 use Rattle.kind.specs.Meaning.{Meaning}
 use Rattle.message.specs.declared.reading.Due.{Due}
 use Rattle.message.specs.declared.reading.Progress.{Progress}
 use Rattle.message.specs.declared.reading.Span.{Span}
-use Rattle.message.specs.declared.reading.Verdict.TheVariants.{Passed, Broken}
+use Rattle.message.specs.declared.faults.Flaw.TheVariants.{Broken}
 use Rattle.message.specs.declared.records.Interval.{Interval}
 use Rattle.message.specs.declared.records.Record.TheVariants as RecordKinds
 use Rattle.message.specs.Lawful.{LawfulInterval, Rising}
@@ -32,8 +33,8 @@ module _ (kind : Meaning) (setup : Setup) where
   pub intervals_stretch : Stretch kind setup RecordKinds.Interval (lawful_interval setup) after_interval (λ p. p.intervals) IntervalsReady
   intervals_stretch = record {
     takes = λ p q r so some is passes. interval_on kind setup p q r (ap (λ d. is_due d r) (sym (due_interval p so some)) ∙ is) passes;
-    leads = λ p i so some test. onward_passes kind setup p (after_interval p i) (RecordKinds.Interval i) (ap (λ d. is_due d (RecordKinds.Interval i)) (due_interval p so some)) (cond-true (lawful_interval setup p i) (Passed (after_interval p i)) Broken test);
-    goes_on = λ p so some end. let z : Due.Interval ≡ Due.End = sym (due_interval p so some) ∙ end in let e : ◌≡◌ {A = ℕ} 0 1 = cc in omega arith;
+    leads = λ p i so some test. onward_passes kind setup p (after_interval p i) (RecordKinds.Interval i) (ap (λ d. is_due d (RecordKinds.Interval i)) (due_interval p so some)) (cond-true (lawful_interval setup p i) (Ok (after_interval p i)) (Err Broken) test);
+    goes_on = λ p so some end. let z : Due.Interval ≡ Due.End = sym (due_interval p so some) ∙ end in cc;
     fewer = λ p i. refl;
     ready = λ p i so. refl;
   }
@@ -76,12 +77,6 @@ module _ (setup : Setup) where
 
 -- SPANS
 
-pub has_first : {X : Type 0} (x : X) (xs : List X) → Has (x ∷ xs) x
-has_first x xs = (0, omega arith, λ d. refl)
-
-pub has_later : {X : Type 0} (x y : X) (xs : List X) → Has xs y → Has (x ∷ xs) y
-has_later x y xs (k, in', at) = (suc k, omega arith, at)
-
 abbrev pub span_of : Interval → Span
 span_of i = record { from = i.from; to = i.to }
 
@@ -104,7 +99,7 @@ module _ (c time : ℕ) where
       placed (inr other) _ k = inr (ap (λ s. carries s time) (sym (get_or-set_other p.spans i.site c (span_of i) no_span other)) ∙ k)
 
       later : CarriedBy is ⊎ (carries (get_or (after_interval p i).spans c no_span) time ≡ true) → CarriedBy (i ∷ is) ⊎ (carries (get_or p.spans c no_span) time ≡ true)
-      later (inl (j, has, rest)) = inl (j, has_later i j is has, rest)
+      later (inl (j, has, rest)) = inl (j, has_later i is j has, rest)
       later (inr k) = placed (cases_eq c i.site) (cases_lt i.site (length p.spans)) k
 
 -- intervals of later sites leave a site's span

@@ -1,5 +1,5 @@
 -- One section: its records lead on just where it is lawful. Assumes nothing.
-use Rattle.std.proofs.Common.{◌≡◌, ℕ, ◌+◌, ◌-◌, ◌<◌, ◌≤◌, true, cond, ◌&&◌, ltb, leb, ◌⊎◌, List, [], ◌∷◌, ◌++◌, map, length, get_or, Some, fold, sym, refl, ap, ◌∙◌, subst, inl, inr, arith}
+use Rattle.std.proofs.Common.{◌≡◌, ℕ, ◌+◌, ◌-◌, ◌<◌, ◌≤◌, true, cond, ◌&&◌, ltb, leb, ◌⊎◌, List, [], ◌∷◌, ◌++◌, map, length, get_or, Some, Ok, Err, fold, sym, refl, ap, ◌∙◌, subst, inl, inr, arith}
 use Rattle.std.specs.List.{AllByRecursion}
 use Rattle.std.proofs.ByRecursion.{All-weaker}
 use Rattle.std.proofs.lemmas.List.{append_assoc, get_or_past, get_or-replicate}
@@ -11,12 +11,14 @@ use Rattle.action.proofs.Sequence.{leads_later}
 use Rattle.kind.specs.Meaning.{Meaning}
 use Rattle.message.specs.declared.reading.Due.{Due}
 use Rattle.message.specs.declared.reading.Progress.{Progress}
-use Rattle.message.specs.declared.reading.Verdict.TheVariants.{Passed, Broken}
+use Rattle.message.specs.declared.faults.Flaw.TheVariants.{Broken}
 use Rattle.message.specs.declared.records.Interval.{Interval}
 use Rattle.message.specs.declared.records.SectionHead.{SectionHead}
 use Rattle.message.specs.declared.records.Record.{Record}
 use Rattle.message.specs.declared.records.Record.TheVariants as RecordKinds
 use Rattle.message.specs.Fields.{ActionFits, Fitting, SectionFits}
+use Rattle.std.proofs.lemmas.List.Sums.{fold-append}
+use Rattle.action.proofs.Members.{all_append_parts}
 use Rattle.message.specs.Format.{Section, head_of, section_records}
 use Rattle.message.specs.Lawful.{LawfulAction, LawfulInterval, LawfulSection}
 use Rattle.message.specs.Progress.{after_action, after_interval, after_section, carries, due_after, lawful_action, lawful_interval, lawful_section, no_action, no_span, no_spans}
@@ -25,13 +27,9 @@ use Rattle.message.proofs.SectionActions.{ActionsReady, Fair, actions_pass, acti
 use Rattle.message.proofs.SectionIntervals.{CarriedBy, IntervalsReady, all_from_map, carried_by, intervals_pass, intervals_stretch, intervals_told, span_set}
 use Rattle.message.proofs.Onward.{first_on, section_on, some_same}
 use Rattle.message.proofs.Steps.{onward_passes}
-use Rattle.message.proofs.Stretches.{Run, folded_append, folded_keeps, left_after, ready_after, split, through}
+use Rattle.message.proofs.Stretches.{Run, folded_keeps, left_after, ready_after, split, through}
 
 -- ALL OF A LIST
-
-pub all_parts : {X : Type 0} (P : X → Type 0) (xs ys : List X) → AllByRecursion P (xs ++ ys) → AllByRecursion P xs × AllByRecursion P ys
-all_parts P [] ys h = (tt, h)
-all_parts P (x ∷ xs) ys h = let k = all_parts P xs ys h.1 in ((h.0, k.0), k.1)
 
 pub all_both : {X : Type 0} (P Q R : X → Type 0) → ((x : X) → P x → Q x → R x) → (xs : List X) → AllByRecursion P xs → AllByRecursion Q xs → AllByRecursion R xs
 all_both P Q R f [] h k = tt
@@ -170,7 +168,7 @@ module _ (kind : Meaning) (setup : Setup) (p : Progress) (is : p.due ≡ Due.Sec
 
   -- records that lead to the end begin with a section where one is due
   pub read_section : (e : Progress) (rs : List Record) → AllByRecursion Fitting rs → fold (onward kind setup) (Some p) rs ≡ Some e → e.due ≡ Due.End → ReadSection e rs
-  read_section e [] fits h end = absurd (let z : Due.Section ≡ Due.End = sym is ∙ ap (λ q. q.due) (some_same p e h) ∙ end in let n : ◌≡◌ {A = ℕ} 0 1 = cc in omega arith)
+  read_section e [] fits h end = absurd (let z : Due.Section ≡ Due.End = sym is ∙ ap (λ q. q.due) (some_same p e h) ∙ end in cc)
   read_section e (r ∷ rs) fits h end =
       let f = first_on kind setup p e r rs h in
       let t = section_on kind setup p f.next r (ap (λ d. is_due d r) (sym is) ∙ f.was_due) f.passes in
@@ -181,7 +179,7 @@ module _ (kind : Meaning) (setup : Setup) (p : Progress) (is : p.due ≡ Due.Sec
       let b = split kind setup _ _ _ _ _ (actions_stretch kind setup) head.actions middle e a.rest (actions_left kind setup p head a.items) (actions_ready kind setup p head a.items a.many told.some) a.onto end in
       let s : Section = record { article = head.article; intervals = a.items; actions = b.items } in
       let same : head_of s ≡ head = λ i. record { article = head.article; intervals = a.many i; actions = b.many i } in
-      let more = all_parts Fitting (map RecordKinds.Action b.items) b.rest (subst (AllByRecursion Fitting) b.parts (all_parts Fitting (map RecordKinds.Interval a.items) a.rest (subst (AllByRecursion Fitting) a.parts fits.1)).1) in
+      let more = all_append_parts Fitting (map RecordKinds.Action b.items) b.rest (subst (AllByRecursion Fitting) b.parts (all_append_parts Fitting (map RecordKinds.Interval a.items) a.rest (subst (AllByRecursion Fitting) a.parts fits.1)).1) in
       record {
         section = s;
         rest = b.rest;
@@ -198,11 +196,11 @@ module _ (kind : Meaning) (setup : Setup) (p : Progress) (is : p.due ≡ Due.Sec
       let head = head_of s in
       let middle = after_intervals p head s.intervals in
       let told : HeadTold setup p head = record { least = least; listed = l.listed; some = l.some; few = l.few } in
-      let first = onward_passes kind setup p (after_section p head) (RecordKinds.Section head) (ap (λ d. is_due d (RecordKinds.Section head)) is) (cond-true (lawful_section setup p head) (Passed (after_section p head)) Broken (head_passes setup p head told)) in
+      let first = onward_passes kind setup p (after_section p head) (RecordKinds.Section head) (ap (λ d. is_due d (RecordKinds.Section head)) is) (cond-true (lawful_section setup p head) (Ok (after_section p head)) (Err Broken) (head_passes setup p head told)) in
       let intervals = intervals_pass setup (after_section p head) s.intervals l.intervals (All-weaker (LawfulInterval setup) (λ i. 0 ≤ i.site) (λ i h. omega arith) s.intervals l.intervals) l.rising in
       let article = folded_keeps (λ q. q.article) after_interval (λ _ _. refl) (after_section p head) s.intervals in
       let last = folded_keeps (λ q. q.last) after_interval (λ _ _. refl) (after_section p head) s.intervals in
       let fair = All-weaker (LawfulAction kind s) (Fair kind s.article middle.spans) (lawful_fair kind setup p s l) s.actions l.actions in
       let leads = leads_later 0 no_action s.actions (omega arith) (All-weaker (LawfulAction kind s) (λ x. 0 < x.time) (λ x a. omega (arith, a.begun, a.in_turn)) s.actions l.actions) in
       let actions = actions_pass kind middle s.actions (subst (λ (n : ℕ). AllByRecursion (Fair kind n middle.spans) s.actions) (sym article) fair) (subst (λ a. Leads a s.actions) (sym last) leads) l.ordered in
-      ap (λ o. fold (onward kind setup) o (map RecordKinds.Interval s.intervals ++ map RecordKinds.Action s.actions)) first ∙ folded_append (onward kind setup) (Some (after_section p head)) (map RecordKinds.Interval s.intervals) (map RecordKinds.Action s.actions) ∙ ap (λ o. fold (onward kind setup) o (map RecordKinds.Action s.actions)) (through kind setup _ _ _ _ _ (intervals_stretch kind setup) (after_section p head) s.intervals refl (intervals_ready kind setup p head l.some) intervals) ∙ through kind setup _ _ _ _ _ (actions_stretch kind setup) middle s.actions (actions_left kind setup p head s.intervals) (actions_ready kind setup p head s.intervals refl l.some) actions
+      ap (λ o. fold (onward kind setup) o (map RecordKinds.Interval s.intervals ++ map RecordKinds.Action s.actions)) first ∙ fold-append (onward kind setup) (Some (after_section p head)) (map RecordKinds.Interval s.intervals) (map RecordKinds.Action s.actions) ∙ ap (λ o. fold (onward kind setup) o (map RecordKinds.Action s.actions)) (through kind setup _ _ _ _ _ (intervals_stretch kind setup) (after_section p head) s.intervals refl (intervals_ready kind setup p head l.some) intervals) ∙ through kind setup _ _ _ _ _ (actions_stretch kind setup) middle s.actions (actions_left kind setup p head s.intervals) (actions_ready kind setup p head s.intervals refl l.some) actions

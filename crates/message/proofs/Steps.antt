@@ -1,51 +1,47 @@
 -- One record more. Assumes nothing.
-use Rattle.std.proofs.Common.{◌≡◌, ℕ, ◌+◌, ◌<◌, ◌≤◌, Bool, true, cond, List, [], ◌∷◌, ◌++◌, length, get_or, drop, Some, None, Ok, count_by, sym, refl, ap, ◌∙◌, subst, arith}
+use Rattle.std.proofs.Common.{◌≡◌, ℕ, ◌+◌, ◌<◌, ◌≤◌, Bool, true, false, cond, List, [], ◌∷◌, ◌++◌, length, get_or, drop, Some, None, Ok, Err, Option, Result, count_by, sym, refl, ap, ◌∙◌, subst, arith}
 use Rattle.std.specs.List.{flat_map}
+use Rattle.std.specs.Result.{result_ok}
 use Rattle.std.proofs.ByRecursion.{All-push}
 use Rattle.std.proofs.lemmas.List.{append_assoc, drop-drop, get_or-drop, length-append}
 use Rattle.std.proofs.lemmas.List.Sums.{fold_push, sum_by_push}
-use Rattle.action.specs.declared.refusals.Refusal.{Refusal}
 use Rattle.action.specs.declared.setups.Setup.{Setup}
 use Rattle.kind.specs.Meaning.{Meaning}
-use Rattle.message.specs.declared.decodes.Decoded.{Decoded}
-use Rattle.message.specs.declared.decodes.Decoded.TheVariants.{Whole, Cut, Finished, Trailing}
+use Rattle.message.specs.declared.faults.Flaw.{Flaw}
 use Rattle.message.specs.declared.reading.Found.{Found}
 use Rattle.message.specs.declared.reading.Progress.{Progress}
-use Rattle.message.specs.declared.reading.Verdict.{Verdict}
-use Rattle.message.specs.declared.reading.Verdict.TheVariants.{Passed, Foreign, Broken}
 use Rattle.message.specs.declared.records.Record.{Record}
 use Rattle.message.specs.declared.records.Record.TheVariants as RecordKinds
 use Rattle.message.specs.Decoding.{decoded}
 use Rattle.message.specs.Fields.{Fitting}
 use Rattle.message.specs.Format.{record_bytes}
 use Rattle.message.specs.Progress.{admitted, start}
-use Rattle.message.specs.Reading.{Begun, Next, ended, found, granted, is_action, is_due, judged, onward, refused, step, stepped}
+use Rattle.message.specs.Reading.{Begun, Next, is_action, is_due, judged, onward, step, stepped}
 use Rattle.message.proofs.Formats.{joined_push}
 use Rattle.message.proofs.Recoding.{whole_back}
 
-no_step : {X : Type 0} (r : Refusal) (x : Record) (p : Progress) → refused r ≡ found x p → X
-no_step r x p h = absurd (let z : ◌≡◌ {A = ℕ} 0 1 = cc in omega arith)
-
 -- a step that found a record: it was decoded, and the rules passed it
-pub found_record : (kind : Meaning) (setup : Setup) (p q : Progress) (at : ℕ) (r : Record) (d : Decoded) → stepped kind setup p at d ≡ found r q → (d ≡ Whole r) × (admitted kind setup p r ≡ Passed q)
-found_record kind setup p q at r (Whole x) h = by_verdict (admitted kind setup p x) refl h
+pub found_record : (kind : Meaning) (setup : Setup) (p q : Progress) (at : ℕ) (r : Record) (d : Result (Option Record) Flaw) → stepped kind setup p at d ≡ Ok (Some (r, q)) → (d ≡ Ok (Some r)) × (admitted kind setup p r ≡ Ok q)
+found_record kind setup p q at r (Ok (Some x)) h = by_verdict (admitted kind setup p x) refl h
   where
-    by_verdict : (v : Verdict) → admitted kind setup p x ≡ v → judged at x v ≡ found r q → (Whole x ≡ Whole r) × (admitted kind setup p r ≡ Passed q)
-    by_verdict (Passed s) is e = let same : x ≡ r = cc in let next : s ≡ q = cc in (ap Whole same, ap (admitted kind setup p) (sym same) ∙ is ∙ ap Passed next)
-    by_verdict Foreign is e = no_step _ r q e
-    by_verdict Broken is e = no_step _ r q e
-found_record kind setup p q at r Cut h = no_step _ r q h
-found_record kind setup p q at r Finished h = absurd (let z : ◌≡◌ {A = ℕ} 0 1 = cc in omega arith)
-found_record kind setup p q at r Trailing h = no_step _ r q h
+    by_verdict : (v : Result Progress Flaw) → admitted kind setup p x ≡ v → judged at x v ≡ Ok (Some (r, q)) → (◌≡◌ {A = Result (Option Record) Flaw} (Ok (Some x)) (Ok (Some r))) × (admitted kind setup p r ≡ Ok q)
+    by_verdict (Ok s) is e =
+        let both : ◌≡◌ {A = Record × Progress} (x, s) (r, q) = cc in
+        let same : x ≡ r = ap (λ t. t.0) both in
+        let next : s ≡ q = ap (λ t. t.1) both in
+        (ap (λ y. Ok (Some y)) same, ap (admitted kind setup p) (sym same) ∙ is ∙ ap Ok next)
+    by_verdict (Err f) is e = cc
+found_record kind setup p q at r (Ok None) h = cc
+found_record kind setup p q at r (Err f) h = cc
 
-pub onward_passes : (kind : Meaning) (setup : Setup) (p q : Progress) (r : Record) → is_due p.due r ≡ true → admitted kind setup p r ≡ Passed q → onward kind setup (Some p) r ≡ Some q
-onward_passes kind setup p q r is passed = ap (λ b. cond b (granted (admitted kind setup p r)) None) is ∙ ap granted passed
+pub onward_passes : (kind : Meaning) (setup : Setup) (p q : Progress) (r : Record) → is_due p.due r ≡ true → admitted kind setup p r ≡ Ok q → onward kind setup (Some p) r ≡ Some q
+onward_passes kind setup p q r is passed = ap (λ b. cond b (result_ok (admitted kind setup p r)) None) is ∙ ap result_ok passed
 
 module _ (kind : Meaning) (setup : Setup) (bytes : List ℕ) (fits : (i : ℕ) → get_or bytes i 0 < 256) where
   abbrev pub begun_none : Begun kind setup bytes 0 start
   begun_none = record { records = []; lawful = refl; fitting = tt; front = refl; far = refl }
 
-  abbrev pub begun_more : (at : ℕ) (p q : Progress) (r : Record) (b : Begun kind setup bytes at p) → step kind setup p at (drop at bytes) ≡ found r q → Begun kind setup bytes (at + length (record_bytes r)) q
+  abbrev pub begun_more : (at : ℕ) (p q : Progress) (r : Record) (b : Begun kind setup bytes at p) → step kind setup p at (drop at bytes) ≡ Ok (Some (r, q)) → Begun kind setup bytes (at + length (record_bytes r)) q
   begun_more at p q r b h =
       let parts = found_record kind setup p q at r (decoded p.due (drop at bytes)) h in
       let back = whole_back (drop at bytes) (λ i. subst (λ (n : ℕ). n < 256) (sym (get_or-drop at bytes i 0)) (fits (at + i))) p.due r parts.0 in
@@ -66,7 +62,18 @@ module _ (kind : Meaning) (setup : Setup) (bytes : List ℕ) (fits : (i : ℕ) �
         let more = begun_more at p q f.«record» b here in
         subst (λ (n : ℕ). (c : Begun kind setup bytes n q) × (c.records ≡ b.records ++ (f.«record» ∷ []))) (sym h.2) (more, refl)
 
-    pub read_all : (at to : ℕ) (p q : Progress) → Next kind setup₁ p at bytes₁ (Ok None) q to → step kind setup p at (drop at bytes) ≡ ended
+    -- and of how many actions there were so far
+    pub count_more : (at to : ℕ) (p q : Progress) (f : Found) (n : ℕ) → (b : Begun kind setup bytes at p) × (n ≡ count_by is_action b.records) → Next kind setup₁ p at bytes₁ (Ok (Some f)) q to → (t : Bool) → t ≡ is_action f.«record» → (c : Begun kind setup bytes to q) × (cond t (n + 1) n ≡ count_by is_action c.records)
+    count_more at to p q f n (b, so) h t is =
+        let more = read_more at to p q f b h in
+        let one : count_by is_action more.0.records ≡ count_by is_action b.records + cond t 1 0 = ap (count_by is_action) more.1 ∙ sum_by_push (λ x. cond (is_action x) 1 0) b.records f.«record» ∙ ap (λ u. count_by is_action b.records + cond u 1 0) (sym is) in
+        (more.0, counts t n _ _ so one)
+      where
+        counts : (t : Bool) (n k l : ℕ) → n ≡ k → l ≡ k + cond t 1 0 → cond t (n + 1) n ≡ l
+        counts true n k l so one = omega arith
+        counts false n k l so one = omega arith
+
+    pub read_all : (at to : ℕ) (p q : Progress) → Next kind setup₁ p at bytes₁ (Ok None) q to → step kind setup p at (drop at bytes) ≡ Ok None
     read_all at to p q h = (λ i. step kind (sym same-setup i) p at (drop at (sym same_bytes i))) ∙ h.0
 
 pub record_size : (r : Record) → 1 ≤ length (record_bytes r)
@@ -74,6 +81,3 @@ record_size (RecordKinds.Header h) = omega arith
 record_size (RecordKinds.Section s) = omega arith
 record_size (RecordKinds.Interval i) = omega arith
 record_size (RecordKinds.Action a) = omega arith
-
-pub counted_more : (rs qs : List Record) (r : Record) (b : Bool) → qs ≡ rs ++ (r ∷ []) → b ≡ is_action r → count_by is_action qs ≡ count_by is_action rs + cond b 1 0
-counted_more rs qs r b more is = ap (count_by is_action) more ∙ sum_by_push (λ x. cond (is_action x) 1 0) rs r ∙ ap (λ t. count_by is_action rs + cond t 1 0) (sym is)

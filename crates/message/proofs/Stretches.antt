@@ -1,18 +1,13 @@
 -- Records of one kind, one after another: a section's intervals, and its actions. Assumes nothing.
-use Rattle.std.proofs.Common.{◌≡◌, ℕ, zero, suc, ◌-◌, ◌≤◌, Bool, true, List, [], ◌∷◌, ◌++◌, map, length, Some, fold, sym, refl, ap, ◌∙◌, arith}
+use Rattle.std.proofs.Common.{◌≡◌, ℕ, zero, suc, ◌-◌, ◌≤◌, Bool, true, List, [], ◌∷◌, ◌++◌, map, length, Some, Ok, fold, sym, refl, ap, ◌∙◌, arith}
 use Rattle.action.specs.declared.setups.Setup.{Setup}
 use Rattle.kind.specs.Meaning.{Meaning}
 use Rattle.message.specs.declared.reading.Due.{Due}
 use Rattle.message.specs.declared.reading.Progress.{Progress}
-use Rattle.message.specs.declared.reading.Verdict.TheVariants.{Passed}
 use Rattle.message.specs.declared.records.Record.{Record}
 use Rattle.message.specs.Progress.{admitted}
 use Rattle.message.specs.Reading.{is_due, onward}
 use Rattle.message.proofs.Onward.{first_on, some_same}
-
-pub folded_append : {A B : Type 0} (f : B → A → B) (b : B) (xs ys : List A) → fold f b (xs ++ ys) ≡ fold f (fold f b xs) ys
-folded_append f b [] ys = refl
-folded_append f b (x ∷ xs) ys = folded_append f (f b x) xs ys
 
 -- what no step changes
 pub folded_keeps : {A B C : Type 0} (f : B → C) (step : B → A → B) → ((b : B) (a : A) → f (step b a) ≡ f b) → (b : B) (xs : List A) → f (fold step b xs) ≡ f b
@@ -26,7 +21,7 @@ Run test after p (x ∷ xs) = (test p x ≡ true) × Run test after (after p x) 
 
 -- so many are left, and as long as any is, just such a record is due
 pub record Stretch (kind : Meaning) (setup : Setup) {X : Type 0} (wrap : X → Record) (test : Progress → X → Bool) (after : Progress → X → Progress) (left : Progress → ℕ) (Ready : Progress → Type 0) : Type 0 where
-  pub takes : (p q : Progress) (r : Record) → Ready p → 1 ≤ left p → is_due p.due r ≡ true → admitted kind setup p r ≡ Passed q → (x : X) × (r ≡ wrap x) × (test p x ≡ true) × (q ≡ after p x)
+  pub takes : (p q : Progress) (r : Record) → Ready p → 1 ≤ left p → is_due p.due r ≡ true → admitted kind setup p r ≡ Ok q → (x : X) × (r ≡ wrap x) × (test p x ≡ true) × (q ≡ after p x)
   pub leads : (p : Progress) (x : X) → Ready p → 1 ≤ left p → test p x ≡ true → onward kind setup (Some p) (wrap x) ≡ Some (after p x)
   pub goes_on : (p : Progress) → Ready p → 1 ≤ left p → p.due ≡ Due.End → ⊥
   pub fewer : (p : Progress) (x : X) → left (after p x) ≡ left p - 1

@@ -40,7 +40,7 @@ module _ (kind : Meaning) (setup : Setup) (bytes : List ℕ) (fits : (i : ℕ) �
     p,
     drop at bytes,
     record { lawful = b.lawful; fitting = b.fitting; front = b.front },
-    subst (λ (n : ℕ). Reason kind setup p n (drop at bytes) (shown e)) b.far (reason kind setup p at (drop at bytes) (shown e) (λ i. subst (λ (n : ℕ). n < 256) (sym (get_or-drop at bytes i 0)) (fits (at + i))) h),
+    subst (λ (n : ℕ). Reason kind setup p n (drop at bytes) (shown e)) b.far (reason kind setup p at (drop at bytes) e (λ i. subst (λ (n : ℕ). n < 256) (sym (get_or-drop at bytes i 0)) (fits (at + i))) h),
   )
 
   pub scan_longest : (r : Result ℕ ReaderFault) → Scanned kind setup bytes r → Longest kind setup bytes r
@@ -55,7 +55,7 @@ module _ (kind : Meaning) (setup : Setup) (bytes : List ℕ) (fits : (i : ℕ) �
 -- nothing is refused where the end is due and no bytes are left
 none_refused : (kind : Meaning) (setup : Setup) (p : Progress) (at : ℕ) (rest : List ℕ) (why : Refusal) → p.due ≡ Due.End → rest ≡ [] → Reason kind setup p at rest why → ⊥
 none_refused kind setup p at rest why end none (no_record n) = n.not_ended end
-none_refused kind setup p at rest why end none (other_table o) = let e : Due.Header ≡ Due.End = sym o.first ∙ end in let z : ◌≡◌ {A = ℕ} 0 1 = cc in omega arith
+none_refused kind setup p at rest why end none (other_table o) = let e : Due.Header ≡ Due.End = sym o.first ∙ end in cc
 none_refused kind setup p at rest why end none (rule_broken b) = false≢true (ap (λ d. is_due d b.broken) (sym end) ∙ b.was_due)
 none_refused kind setup p at rest why end none (bytes_follow f) = omega (arith, f.more, ap length none)
 

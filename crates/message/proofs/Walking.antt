@@ -5,14 +5,13 @@ use Rattle.std.proofs.lemmas.List.{drop_at, drop-drop, length-drop, nil_from_len
 use Rattle.action.specs.declared.setups.Setup.{Setup}
 use Rattle.kind.specs.Meaning.{Meaning}
 use Rattle.message.specs.declared.reading.Due.TheVariants as Due
-use Rattle.action.specs.declared.orders.Action.{Action}
 use Rattle.message.specs.declared.records.Interval.{Interval}
 use Rattle.message.specs.declared.records.Record.{Record}
 use Rattle.message.specs.declared.records.Record.TheVariants as RecordKinds
 use Rattle.message.specs.Fields.{Fitting}
 use Rattle.message.specs.Format.{Message, format, record_bytes, records}
 use Rattle.message.specs.Lawful.{LawfulMessage}
-use Rattle.message.specs.Walks.{action_in, actions_of, article_after, first_of, interval_in, intervals_of, next_records, record_in, records_by, records_in, whole}
+use Rattle.message.specs.Walks.{article_after, first_of, interval_in, intervals_of, next_records, record_in, records_by, records_in, whole}
 use Rattle.message.proofs.Sameness.{lawful_fits}
 use Rattle.message.proofs.Decodings.{decoded_format}
 use Rattle.message.proofs.Steps.{record_size}
@@ -33,7 +32,7 @@ turns (suc f) (suc g) bs h k = go (λ l m n. turns f g l m n) (record_in bs)
         ap (λ l. r ∷ l) (less (drop (length (record_bytes r)) bs) (omega (arith, length-drop (length (record_bytes r)) bs, record_size r)) (omega (arith, length-drop (length (record_bytes r)) bs, record_size r)))
 
 pub records_next : (bs : List ℕ) (r : Record) → record_in bs ≡ Some r → records_in bs ≡ r ∷ records_in (drop (length (record_bytes r)) bs)
-records_next [] r h = absurd (let z : ◌≡◌ {A = ℕ} 0 1 = cc in omega arith)
+records_next [] r h = cc
 records_next (b ∷ bs) r h =
     let size = length (record_bytes r) in
     ap (next_records (records_by (length bs)) (b ∷ bs)) h ∙ ap (λ l. r ∷ l) (turns (length bs) (length (drop size (b ∷ bs))) (drop size (b ∷ bs)) (omega (arith, length-drop size (b ∷ bs), record_size r)) (omega arith))
@@ -44,11 +43,11 @@ records_end (b ∷ bs) h = ap (next_records (records_by (length bs)) (b ∷ bs))
 
 -- the first of the records is the one that the bytes begin with
 pub record_begins : (bs : List ℕ) (r : Record) (rs : List Record) → records_in bs ≡ r ∷ rs → record_in bs ≡ Some r
-record_begins [] r rs h = absurd (let z : ◌≡◌ {A = ℕ} 0 1 = cc in omega arith)
+record_begins [] r rs h = cc
 record_begins (b ∷ bs) r rs h = go (record_in (b ∷ bs)) h
   where
     go : (o : Option Record) → next_records (records_by (length bs)) (b ∷ bs) o ≡ r ∷ rs → o ≡ Some r
-    go None e = absurd (let z : ◌≡◌ {A = ℕ} 0 1 = cc in omega arith)
+    go None e = cc
     go (Some q) e = let same : q ≡ r = cc in ap (λ x. Some x) same
 
 -- the same at a place of the bytes
@@ -58,42 +57,30 @@ records_from bs at r h = records_next (drop at bs) r h ∙ ap (λ l. r ∷ recor
 -- WHAT A LOOP OVER THE RECORDS HAS LEFT, FROM ONE RECORD TO THE NEXT
 
 module _ (rs : List Record) where
-  pub actions_some : (r : Record) (x : Action) → action_in r ≡ Some x → actions_of (r ∷ rs) ≡ x ∷ actions_of rs
-  actions_some (RecordKinds.Header h) x e = absurd (let z : ◌≡◌ {A = ℕ} 0 1 = cc in omega arith)
-  actions_some (RecordKinds.Section s) x e = absurd (let z : ◌≡◌ {A = ℕ} 0 1 = cc in omega arith)
-  actions_some (RecordKinds.Interval i) x e = absurd (let z : ◌≡◌ {A = ℕ} 0 1 = cc in omega arith)
-  actions_some (RecordKinds.Action y) x e = let same : y ≡ x = cc in ap (λ y. y ∷ actions_of rs) same
-
-  pub actions_none : (r : Record) → action_in r ≡ None → actions_of (r ∷ rs) ≡ actions_of rs
-  actions_none (RecordKinds.Header h) e = refl
-  actions_none (RecordKinds.Section s) e = refl
-  actions_none (RecordKinds.Interval i) e = refl
-  actions_none (RecordKinds.Action y) e = absurd (let z : ◌≡◌ {A = ℕ} 0 1 = cc in omega arith)
-
   module _ (a : ℕ) where
     pub intervals_some : (r : Record) (i : Interval) → interval_in r ≡ Some i → intervals_of a (r ∷ rs) ≡ (a, i) ∷ intervals_of (article_after a r) rs
-    intervals_some (RecordKinds.Header h) i e = absurd (let z : ◌≡◌ {A = ℕ} 0 1 = cc in omega arith)
-    intervals_some (RecordKinds.Section s) i e = absurd (let z : ◌≡◌ {A = ℕ} 0 1 = cc in omega arith)
+    intervals_some (RecordKinds.Header h) i e = cc
+    intervals_some (RecordKinds.Section s) i e = cc
     intervals_some (RecordKinds.Interval j) i e = let same : j ≡ i = cc in ap (λ j. (a, j) ∷ intervals_of a rs) same
-    intervals_some (RecordKinds.Action y) i e = absurd (let z : ◌≡◌ {A = ℕ} 0 1 = cc in omega arith)
+    intervals_some (RecordKinds.Action y) i e = cc
 
     pub intervals_none : (r : Record) → interval_in r ≡ None → intervals_of a (r ∷ rs) ≡ intervals_of (article_after a r) rs
     intervals_none (RecordKinds.Header h) e = refl
     intervals_none (RecordKinds.Section s) e = refl
-    intervals_none (RecordKinds.Interval j) e = absurd (let z : ◌≡◌ {A = ℕ} 0 1 = cc in omega arith)
+    intervals_none (RecordKinds.Interval j) e = cc
     intervals_none (RecordKinds.Action y) e = refl
 
     module _ (test : ℕ → Interval → Bool) (at : ℕ) where
       pub first_some : (r : Record) (i : Interval) → interval_in r ≡ Some i → first_of test at a (r ∷ rs) ≡ cond (test a i) (Some at) (first_of test (at + length (record_bytes r)) (article_after a r) rs)
-      first_some (RecordKinds.Header h) i e = absurd (let z : ◌≡◌ {A = ℕ} 0 1 = cc in omega arith)
-      first_some (RecordKinds.Section s) i e = absurd (let z : ◌≡◌ {A = ℕ} 0 1 = cc in omega arith)
+      first_some (RecordKinds.Header h) i e = cc
+      first_some (RecordKinds.Section s) i e = cc
       first_some (RecordKinds.Interval j) i e = let same : j ≡ i = cc in ap (λ j. cond (test a j) (Some at) (first_of test (at + 10) a rs)) same
-      first_some (RecordKinds.Action y) i e = absurd (let z : ◌≡◌ {A = ℕ} 0 1 = cc in omega arith)
+      first_some (RecordKinds.Action y) i e = cc
 
       pub first_none : (r : Record) → interval_in r ≡ None → first_of test at a (r ∷ rs) ≡ first_of test (at + length (record_bytes r)) (article_after a r) rs
       first_none (RecordKinds.Header h) e = refl
       first_none (RecordKinds.Section s) e = refl
-      first_none (RecordKinds.Interval j) e = absurd (let z : ◌≡◌ {A = ℕ} 0 1 = cc in omega arith)
+      first_none (RecordKinds.Interval j) e = cc
       first_none (RecordKinds.Action y) e = refl
 
 -- a record's own bytes begin with that record

@@ -13,7 +13,7 @@ use Rattle.message.specs.declared.records.Record.TheVariants as RecordKinds
 use Rattle.message.specs.Format.{record_bytes}
 use Rattle.message.specs.Found.{actions_among, found_from, placed, stretches_among, stretches_in, told}
 use Rattle.message.specs.Walks.{actions_of, first_of, intervals_of, next_records, record_in, records_by, records_in}
-use Rattle.message.proofs.Walking.{records_end, records_from}
+use Rattle.message.proofs.Walking.{records_from}
 
 -- ITERATORS THAT ARE SEEN AS WHAT THEY HAVE LEFT
 
@@ -29,9 +29,6 @@ module _ {A : Type 0} where
 module _ (bytes : List ℕ) (at : ℕ) where
   pub found_next : (r : Record) → record_in (drop at bytes) ≡ Some r → found_from bytes at ≡ record { offset = at; «record» = r } ∷ found_from bytes (at + length (record_bytes r))
   found_next r h = ap (placed at) (records_from bytes at r h)
-
-  pub found_end : record_in (drop at bytes) ≡ None → found_from bytes at ≡ []
-  found_end h = ap (placed at) (records_end (drop at bytes) h)
 
 pub actions_placed : (at : ℕ) (rs : List Record) → actions_among (placed at rs) ≡ actions_of rs
 actions_placed at [] = refl

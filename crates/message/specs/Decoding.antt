@@ -1,12 +1,13 @@
 -- Which record the next bytes are, where one of a kind is due. Assumes nothing.
-use Rattle.std.specs.Prelude.{ℕ, ◌+◌, ◌*◌, Bool, cond, ◌&&◌, List, length, ◌==◌, nat_le, slice_index}
+use Rattle.std.specs.Prelude.{ℕ, ◌+◌, ◌*◌, Bool, cond, ◌&&◌, List, length, Some, None, Ok, Err, Option, Result, ◌==◌, nat_le, slice_index}
 use Rattle.action.specs.Bytes.{action_of, number4}
-use Rattle.message.specs.declared.decodes.Decoded.{Decoded}
-use Rattle.message.specs.declared.decodes.Decoded.TheVariants.{Whole, Cut, Finished, Trailing}
+use Rattle.message.specs.declared.faults.Flaw.{Flaw}
+use Rattle.message.specs.declared.faults.Flaw.TheVariants.{Cut, Trailing}
 use Rattle.message.specs.declared.reading.Due.{Due}
 use Rattle.message.specs.declared.records.Header.{Header}
 use Rattle.message.specs.declared.records.Interval.{Interval}
 use Rattle.message.specs.declared.records.SectionHead.{SectionHead}
+use Rattle.message.specs.declared.records.Record.{Record}
 use Rattle.message.specs.declared.records.Record.TheVariants as RecordKinds
 use Rattle.message.specs.Format.{record_bytes}
 
@@ -26,17 +27,16 @@ section_in bs = record { article = slice_index bs 1; intervals = slice_index bs 
 abbrev pub interval_in : List ℕ → Interval
 interval_in bs = record { site = slice_index bs 1; from = number4 bs 2; to = number4 bs 6 }
 
--- a record that is cut off, or not of the kind due, is none
-abbrev pub decoded : Due → List ℕ → Decoded
-decoded Due.Header bs = cond (begins 0x48 6 bs) (Whole (RecordKinds.Header (header_in bs))) Cut
-decoded Due.Section bs = cond (begins 0x53 5 bs) (Whole (RecordKinds.Section (section_in bs))) Cut
-decoded Due.Interval bs = cond (begins 0x49 10 bs) (Whole (RecordKinds.Interval (interval_in bs))) Cut
-decoded Due.Action bs = cond (begins 0x41 16 bs) (Whole (RecordKinds.Action (action_of bs))) Cut
-decoded Due.End bs = cond (length bs == 0) Finished Trailing
+-- the record that is due, or the end; or it is cut off or of another kind, or bytes follow the end
+abbrev pub decoded : Due → List ℕ → Result (Option Record) Flaw
+decoded Due.Header bs = cond (begins 0x48 6 bs) (Ok (Some (RecordKinds.Header (header_in bs)))) (Err Cut)
+decoded Due.Section bs = cond (begins 0x53 5 bs) (Ok (Some (RecordKinds.Section (section_in bs)))) (Err Cut)
+decoded Due.Interval bs = cond (begins 0x49 10 bs) (Ok (Some (RecordKinds.Interval (interval_in bs)))) (Err Cut)
+decoded Due.Action bs = cond (begins 0x41 16 bs) (Ok (Some (RecordKinds.Action (action_of bs)))) (Err Cut)
+decoded Due.End bs = cond (length bs == 0) (Ok None) (Err Trailing)
 
 -- how many bytes the record takes, where there is one
-abbrev pub size_of : Decoded → ℕ
-size_of (Whole r) = length (record_bytes r)
-size_of Cut = 0
-size_of Finished = 0
-size_of Trailing = 0
+abbrev pub size_of : Result (Option Record) Flaw → ℕ
+size_of (Ok (Some r)) = length (record_bytes r)
+size_of (Ok None) = 0
+size_of (Err _) = 0

@@ -1,10 +1,12 @@
 -- The rules for each record of a message, after those before it. Assumes nothing.
-use Rattle.std.specs.Prelude.{ℕ, ◌+◌, ◌-◌, Bool, cond, ◌&&◌, List, replicate, pos, ◌==◌, nat_le, nat_lt, slice_index_or, slice_set}
+use Rattle.std.specs.Prelude.{◌≡◌, ℕ, ◌+◌, ◌-◌, Bool, cond, ◌&&◌, List, replicate, Ok, Err, Result, pos, ◌==◌, nat_le, nat_lt, slice_index_or, slice_set}
 use Rattle.action.specs.declared.orders.Action.{Action}
 use Rattle.action.specs.declared.setups.Setup.{Setup}
 use Rattle.action.specs.Order.{precedes}
 use Rattle.kind.specs.Meaning.{Meaning}
 use Rattle.kind.specs.Working.{knows_action}
+use Rattle.message.specs.declared.faults.Flaw.{Flaw}
+use Rattle.message.specs.declared.faults.Flaw.TheVariants.{Foreign, Broken}
 use Rattle.message.specs.declared.reading.Due.{Due}
 use Rattle.message.specs.declared.reading.Progress.{Progress}
 use Rattle.message.specs.declared.reading.Span.{Span}
@@ -13,8 +15,6 @@ use Rattle.message.specs.declared.records.Interval.{Interval}
 use Rattle.message.specs.declared.records.SectionHead.{SectionHead}
 use Rattle.message.specs.declared.records.Record.{Record}
 use Rattle.message.specs.declared.records.Record.TheVariants as RecordKinds
-use Rattle.message.specs.declared.reading.Verdict.{Verdict}
-use Rattle.message.specs.declared.reading.Verdict.TheVariants.{Passed, Foreign, Broken}
 
 abbrev pub no_span : Span
 no_span = record { from = 0; to = 0 }
@@ -118,8 +118,13 @@ after_action p x = record {
 -- ANY RECORD
 
 -- a record after those before it: it leads on, or names another group or kind, or breaks a rule
-abbrev pub admitted : Meaning → Setup → Progress → Record → Verdict
-admitted kind setup p (RecordKinds.Header h) = cond (named kind setup h) (cond (lawful_header setup h) (Passed (after_header p h)) Broken) Foreign
-admitted kind setup p (RecordKinds.Section s) = cond (lawful_section setup p s) (Passed (after_section p s)) Broken
-admitted kind setup p (RecordKinds.Interval i) = cond (lawful_interval setup p i) (Passed (after_interval p i)) Broken
-admitted kind setup p (RecordKinds.Action x) = cond (lawful_action kind p x) (Passed (after_action p x)) Broken
+abbrev pub admitted : Meaning → Setup → Progress → Record → Result Progress Flaw
+admitted kind setup p (RecordKinds.Header h) = cond (named kind setup h) (cond (lawful_header setup h) (Ok (after_header p h)) (Err Broken)) (Err Foreign)
+admitted kind setup p (RecordKinds.Section s) = cond (lawful_section setup p s) (Ok (after_section p s)) (Err Broken)
+admitted kind setup p (RecordKinds.Interval i) = cond (lawful_interval setup p i) (Ok (after_interval p i)) (Err Broken)
+admitted kind setup p (RecordKinds.Action x) = cond (lawful_action kind p x) (Ok (after_action p x)) (Err Broken)
+
+-- going on by a record: to the progress after it, or nowhere, with the flaw
+abbrev pub Admits : Meaning → Setup → Progress → Record → Result (Unit {0}) Flaw → Progress → Type 0
+Admits kind setup p r (Ok _) q = admitted kind setup p r ≡ Ok q
+Admits kind setup p r (Err f) q = (admitted kind setup p r ≡ Err f) × (q ≡ p)

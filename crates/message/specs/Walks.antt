@@ -1,7 +1,8 @@
 -- The records that bytes hold one after another, and what they say. Assumes nothing.
-use Rattle.std.specs.Prelude.{ℕ, zero, suc, ◌+◌, Bool, cond, List, [], ◌∷◌, length, drop, Some, None, Option, ◌==◌, slice_index}
-use Rattle.message.specs.declared.decodes.Decoded.{Decoded}
-use Rattle.message.specs.declared.decodes.Decoded.TheVariants.{Whole, Cut, Finished, Trailing}
+use Rattle.std.specs.Prelude.{ℕ, zero, suc, ◌+◌, Bool, cond, List, [], ◌∷◌, length, drop, Some, None, Option, Result, ◌==◌, slice_index}
+use Rattle.std.specs.Option.{option_flatten}
+use Rattle.std.specs.Result.{result_ok}
+use Rattle.message.specs.declared.faults.Flaw.{Flaw}
 use Rattle.message.specs.declared.reading.Due.{Due}
 use Rattle.action.specs.declared.orders.Action.{Action}
 use Rattle.message.specs.declared.records.Interval.{Interval}
@@ -10,11 +11,9 @@ use Rattle.message.specs.declared.records.Record.TheVariants as RecordKinds
 use Rattle.message.specs.Decoding.{decoded}
 use Rattle.message.specs.Format.{record_bytes}
 
-abbrev pub whole : Decoded → Option Record
-whole (Whole r) = Some r
-whole Cut = None
-whole Finished = None
-whole Trailing = None
+-- the record, where one was decoded
+abbrev pub whole : Result (Option Record) Flaw → Option Record
+whole d = option_flatten (result_ok d)
 
 -- the kind byte tells which record it is
 abbrev pub record_in : List ℕ → Option Record

@@ -1,21 +1,10 @@
-ghost use Rattle.std.specs.Prelude.{◌≡◌};
 ghost use Rattle.message.specs.Checks.{Accepted, Accepts, Longest, Refused, Unique};
-ghost use Rattle.message.specs.Reading.{Scanned, is_action};
+ghost use Rattle.message.specs.Reading.{Scanned};
 
 use crate::cursor::Reader;
 use crate::faults::ReaderFault;
-use crate::records::Record;
 use action::Setup;
 use kind::Kind;
-
-fn is_action(read: &Record) -> bool
-    ensures { result ≡ is_action read.now }
-{
-    match read {
-        Record::Action(_) => true,
-        _ => false,
-    }
-}
 
 // Reads all the bytes as one message, and answers how many actions it carries.
 fn scan<K: Kind>(setup: Setup, bytes: &[u8]) -> Result<usize, ReaderFault>
@@ -24,7 +13,7 @@ fn scan<K: Kind>(setup: Setup, bytes: &[u8]) -> Result<usize, ReaderFault>
     let mut reader = Reader::new(setup, bytes);
     let mut actions = 0;
     while let Some(found) = reader.next::<K>()? {
-        if is_action(&found.record) {
+        if found.record.action().is_some() {
             actions += 1;
         }
     }

@@ -1,79 +1,36 @@
-ghost use Rattle.std.specs.Prelude.{◌≡◌, ◌≤◌, length};
-ghost use Rattle.message.specs.Decoding.{decoded, size_of};
+ghost use Rattle.std.specs.Prelude.{◌≡◌, ◌<◌, ◌≤◌, false, true, length, MatchOption};
+ghost use Rattle.std.specs.Array.{IsFirstChunk};
+ghost use Rattle.message.specs.Decoding.{begins, decoded, size_of};
 
+use crate::faults::Flaw;
 use crate::reading::Due;
 use crate::records::{Header, Interval, Record, SectionHead};
 use action::Action;
 
-// What the next bytes are, where a record of one kind, or the end, is due.
-#[derive(Clone, Copy)]
-pub enum Decoded {
-    Whole(Record),
-    // A record that is cut off or of another kind.
-    Cut,
-    Finished,
-    // The end is due, and bytes follow.
-    Trailing,
+// The bytes of one record, where the bytes begin with its kind byte and are enough.
+fn front<const N: usize>(bytes: &[u8], kind: u8) -> Option<&[u8; N]>
+    requires { 0 < N }
+    ensures { MatchOption result (begins kind N bytes.now ≡ false) (λ front. (begins kind N bytes.now ≡ true) × IsFirstChunk bytes.now front.now N) }
+{
+    match bytes {
+        [first, ..] if *first == kind => bytes.first_chunk(),
+        _ => None,
+    }
 }
 
-pub fn decode(due: Due, bytes: &[u8]) -> Decoded
+// The record that the bytes begin with, where one of this kind is due; `None` where the end is due
+// and there.
+pub(crate) fn decode(due: Due, bytes: &[u8]) -> Result<Option<Record>, Flaw>
     ensures value { result ≡ decoded due bytes.now }
     ensures fits { size_of result ≤ length bytes.now }
 {
-    match (due, bytes) {
-        (Due::Header, [b'H', g1, g0, kind, sender, sections, ..]) => Decoded::Whole(
-            Record::Header(Header {
-                group: u16::from_be_bytes([*g1, *g0]),
-                kind: *kind,
-                sender: *sender,
-                sections: *sections,
-            }),
-        ),
-        (Due::Section, [b'S', article, intervals, a1, a0, ..]) => Decoded::Whole(Record::Section(
-            SectionHead {
-                article: *article,
-                intervals: *intervals,
-                actions: u16::from_be_bytes([*a1, *a0]),
-            },
-        )),
-        (Due::Interval, [b'I', site, f3, f2, f1, f0, t3, t2, t1, t0, ..]) => Decoded::Whole(
-            Record::Interval(Interval {
-                site: *site,
-                from: u32::from_be_bytes([*f3, *f2, *f1, *f0]),
-                to: u32::from_be_bytes([*t3, *t2, *t1, *t0]),
-            }),
-        ),
-        (
-            Due::Action,
-            [
-                b'A',
-                coordinator,
-                t3,
-                t2,
-                t1,
-                t0,
-                n3,
-                n2,
-                n1,
-                n0,
-                article,
-                operation,
-                a3,
-                a2,
-                a1,
-                a0,
-                ..
-            ],
-        ) => Decoded::Whole(Record::Action(Action {
-            coordinator: *coordinator,
-            time: u32::from_be_bytes([*t3, *t2, *t1, *t0]),
-            transaction: u32::from_be_bytes([*n3, *n2, *n1, *n0]),
-            article: *article,
-            operation: *operation,
-            amount: i32::from_be_bytes([*a3, *a2, *a1, *a0]),
-        })),
-        (Due::End, []) => Decoded::Finished,
-        (Due::End, _) => Decoded::Trailing,
-        _ => Decoded::Cut,
-    }
+    let record = match due {
+        Due::Header => front(bytes, b'H').map(|it| Record::Header(Header::from_bytes(it))),
+        Due::Section => front(bytes, b'S').map(|it| Record::Section(SectionHead::from_bytes(it))),
+        Due::Interval => front(bytes, b'I').map(|it| Record::Interval(Interval::from_bytes(it))),
+        Due::Action => front(bytes, b'A').map(|it| Record::Action(Action::from_bytes(it))),
+        Due::End if bytes.is_empty() => return Ok(None),
+        Due::End => return Err(Flaw::Trailing),
+    };
+    record.map(Some).ok_or(Flaw::Cut)
 }

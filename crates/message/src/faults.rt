@@ -1,5 +1,5 @@
 ghost use Rattle.std.specs.Prelude.{◌≡◌};
-ghost use Rattle.message.specs.Faults.{shown};
+ghost use Rattle.message.specs.Faults.{fault_at, shown};
 
 use action::{Layer, Refusal};
 
@@ -16,11 +16,34 @@ pub enum ReaderFault {
     Trailing(usize),
 }
 
-impl ReaderFault {
-    pub fn refusal(&self) -> Refusal
-        ensures { result ≡ shown self.now }
+// What is wrong with the next bytes, wherever they stand.
+#[derive(Clone, Copy)]
+pub(crate) enum Flaw {
+    Cut,
+    Foreign,
+    Broken,
+    Trailing,
+}
+
+impl Flaw {
+    // The fault, at its place.
+    pub(crate) fn at(self, place: usize) -> ReaderFault
+        ensures { result ≡ fault_at place self }
     {
-        let (number, place) = match *self {
+        match self {
+            Flaw::Cut => ReaderFault::Cut(place),
+            Flaw::Foreign => ReaderFault::Foreign,
+            Flaw::Broken => ReaderFault::Broken(place),
+            Flaw::Trailing => ReaderFault::Trailing(place),
+        }
+    }
+}
+
+impl From<ReaderFault> for Refusal {
+    ghost from_gives = { λ e r. r ≡ shown e };
+
+    fn from(fault: ReaderFault) -> Refusal {
+        let (number, place) = match fault {
             ReaderFault::Cut(place) => (9, place),
             ReaderFault::Foreign => (10, 0),
             ReaderFault::Broken(place) => (11, place),

@@ -90,12 +90,12 @@ impl<'a> Iterator for Intervals<'a> {
     ghost remaining = { item_count (λ left. left) };
 
     fn next(&mut self) -> Option<Stretch> {
-        while let Some(Found { offset, record }) = self.records.next() {
+        while let Some(found) = self.records.next() {
             let article = self.article;
-            self.article = record.article_after(article);
-            if let Some(interval) = record.interval() {
+            self.article = found.record.article_after(article);
+            if let Some(interval) = found.record.interval() {
                 return Some(Stretch {
-                    offset,
+                    offset: found.offset,
                     article,
                     interval,
                 });
@@ -107,14 +107,12 @@ impl<'a> Iterator for Intervals<'a> {
 
 // The actions that are left.
 #[derive(Drop)]
-pub struct Actions<'a> {
-    records: Records<'a>,
-}
+pub struct Actions<'a>(Records<'a>);
 
 impl<'a> Model for Actions<'a> {
     ghost Value = { List Action };
 
-    ghost view = { λ a. actions_among a.records };
+    ghost view = { λ a. actions_among a.0 };
 }
 
 impl<'a> Actions<'a> {
@@ -124,9 +122,7 @@ impl<'a> Actions<'a> {
         ensures few { length result ≤ length bytes.now }
         ensures runs { YieldsInOrder (YieldsFirst {A = Action} (λ left. left)) (λ left. left) }
     {
-        Actions {
-            records: Records::new(bytes),
-        }
+        Actions(Records::new(bytes))
     }
 }
 
@@ -138,7 +134,7 @@ impl<'a> Iterator for Actions<'a> {
     ghost remaining = { item_count (λ left. left) };
 
     fn next(&mut self) -> Option<Action> {
-        while let Some(found) = self.records.next() {
+        while let Some(found) = self.0.next() {
             if let Some(action) = found.record.action() {
                 return Some(action);
             }

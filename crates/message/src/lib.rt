@@ -1,6 +1,7 @@
 // Messages between the sites of a group: their four records, and the writing and reading of them.
 #![tactic(auto)]
 
+mod bytes;
 mod checks;
 mod cursor;
 mod decodes;

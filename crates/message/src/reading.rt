@@ -1,7 +1,6 @@
 ghost use Rattle.std.specs.Prelude.{◌≡◌};
 ghost use Rattle.message.specs.Progress.{start};
 
-use crate::faults::ReaderFault;
 use crate::records::{Interval, Record};
 use action::Action;
 
@@ -16,7 +15,7 @@ pub enum Due {
 }
 
 // The times that an interval carries: above `from` and up to `to`. Where both are 0 it carries none.
-#[derive(Clone, Copy, Debug, PartialEq, Eq)]
+#[derive(Clone, Copy, Debug, Default, PartialEq, Eq)]
 pub struct Span {
     pub from: u32,
     pub to: u32,
@@ -38,24 +37,6 @@ pub struct Progress {
     pub spans: [Span; 8],
     // The last action of the section; one at time 0 stands before the first.
     pub last: Action,
-}
-
-// What the rules say of a record, after those before it.
-#[derive(Clone, Copy)]
-pub enum Verdict {
-    Passed(Progress),
-    // A header of another group or kind.
-    Foreign,
-    // A field that breaks a rule.
-    Broken,
-}
-
-// What a look at the next bytes shows.
-#[derive(Clone, Copy)]
-pub enum Look {
-    Ended,
-    Read(Record, Progress),
-    Refused(ReaderFault),
 }
 
 // A record that was read, and where in the message it stands.
@@ -86,7 +67,7 @@ impl Progress {
             article: 0,
             next_article: 0,
             next_site: 0,
-            spans: [Span { from: 0, to: 0 }; 8],
+            spans: [Span::default(); 8],
             last: Action {
                 coordinator: 0,
                 time: 0,

@@ -1,8 +1,9 @@
 ghost use Rattle.std.specs.Prelude.{◌≡◌, slice_index_or};
 ghost use Rattle.message.specs.declared.records.Record.TheVariants.{Header as HeaderRecord, Section as SectionRecord, Interval as IntervalRecord, Action as ActionRecord};
-ghost use Rattle.message.specs.Progress.{admitted, due_after, lawful_action, lawful_header, lawful_interval, lawful_section, named, no_span};
+ghost use Rattle.message.specs.Progress.{Admits, due_after, lawful_action, lawful_header, lawful_interval, lawful_section, named, no_span};
 
-use crate::reading::{Due, Progress, Span, Verdict};
+use crate::faults::Flaw;
+use crate::reading::{Due, Progress, Span};
 use crate::records::{Header, Interval, Record, SectionHead};
 use action::{Action, LATEST_TIME, Setup};
 use kind::Kind;
@@ -22,129 +23,127 @@ fn due_after(intervals: u8, actions: u16, sections: u8) -> Due
     }
 }
 
-// Does the header name the group and the kind?
-fn is_named<K: Kind>(setup: &Setup, header: &Header) -> bool
-    ensures { result ≡ named K.means setup.now header.now }
-{
-    header.group == setup.group && header.kind == K::number()
-}
+impl Header {
+    // Does it name the group and the kind?
+    fn is_named<K: Kind>(&self, setup: &Setup) -> bool
+        ensures { result ≡ named K.means setup.now self.now }
+    {
+        self.group == setup.group && self.kind == K::number()
+    }
 
-fn is_lawful_header(setup: &Setup, header: &Header) -> bool
-    ensures { result ≡ lawful_header setup.now header.now }
-{
-    1 <= header.sections && header.sections <= 16 && header.sender < setup.sites
-}
-
-fn is_lawful_section(setup: &Setup, progress: &Progress, head: &SectionHead) -> bool
-    ensures { result ≡ lawful_section setup.now progress.now head.now }
-{
-    progress.next_article <= head.article
-        && head.article < setup.articles
-        && 1 <= head.intervals
-        && head.intervals <= setup.sites
-}
-
-fn is_lawful_interval(setup: &Setup, progress: &Progress, interval: &Interval) -> bool
-    ensures { result ≡ lawful_interval setup.now progress.now interval.now }
-{
-    progress.next_site <= interval.site
-        && interval.site < setup.sites
-        && interval.from <= interval.to
-        && interval.to <= LATEST_TIME
-}
-
-// What the section's intervals carry of a site.
-fn span(progress: &Progress, site: u8) -> Span
-    ensures { result ≡ slice_index_or progress.now.spans site no_span }
-{
-    match progress.spans.get(site as usize) {
-        Some(span) => *span,
-        None => Span { from: 0, to: 0 },
+    fn is_lawful(&self, setup: &Setup) -> bool
+        ensures { result ≡ lawful_header setup.now self.now }
+    {
+        (1..=16).contains(&self.sections) && self.sender < setup.sites
     }
 }
 
-fn is_lawful_action<K: Kind>(progress: &Progress, action: &Action) -> bool
-    ensures { result ≡ lawful_action K.means progress.now action.now }
-{
-    let span = span(progress, action.coordinator);
-    action.article == progress.article
-        && span.from < action.time
-        && action.time <= span.to
-        && progress.last.precedes(action)
-        && 1 <= action.transaction
-        && action.transaction <= action.time
-        && K::is_known(action.operation, action.amount)
-}
-
-fn admit_header<K: Kind>(setup: &Setup, progress: &Progress, header: Header) -> Verdict
-    ensures { result ≡ admitted K.means setup.now progress.now (HeaderRecord header) }
-{
-    if !is_named::<K>(setup, &header) {
-        return Verdict::Foreign;
+// The rules for the next record, after those before it.
+impl Progress {
+    fn is_lawful_section(&self, setup: &Setup, head: &SectionHead) -> bool
+        ensures { result ≡ lawful_section setup.now self.now head.now }
+    {
+        (self.next_article..setup.articles).contains(&head.article)
+            && (1..=setup.sites).contains(&head.intervals)
     }
-    if !is_lawful_header(setup, &header) {
-        return Verdict::Broken;
-    }
-    let mut after = *progress;
-    after.due = Due::Section;
-    after.sections = header.sections;
-    Verdict::Passed(after)
-}
 
-fn admit_section<K: Kind>(setup: &Setup, progress: &Progress, head: SectionHead) -> Verdict
-    ensures { result ≡ admitted K.means setup.now progress.now (SectionRecord head) }
-{
-    if !is_lawful_section(setup, progress, &head) {
-        return Verdict::Broken;
+    fn is_lawful_interval(&self, setup: &Setup, interval: &Interval) -> bool
+        ensures { result ≡ lawful_interval setup.now self.now interval.now }
+    {
+        (self.next_site..setup.sites).contains(&interval.site)
+            && interval.from <= interval.to
+            && interval.to <= LATEST_TIME
     }
-    let mut after = Progress::start();
-    after.due = Due::Interval;
-    after.sections = progress.sections.saturating_sub(1);
-    after.intervals = head.intervals;
-    after.actions = head.actions;
-    after.article = head.article;
-    after.next_article = head.article + 1;
-    Verdict::Passed(after)
-}
 
-fn admit_interval<K: Kind>(setup: &Setup, progress: &Progress, interval: Interval) -> Verdict
-    ensures { result ≡ admitted K.means setup.now progress.now (IntervalRecord interval) }
-{
-    if !is_lawful_interval(setup, progress, &interval) {
-        return Verdict::Broken;
+    // What the section's intervals carry of a site.
+    fn span(&self, site: u8) -> Span
+        ensures { result ≡ slice_index_or self.now.spans site no_span }
+    {
+        let span = self.spans.get(usize::from(site));
+        span.copied().unwrap_or_default()
     }
-    let mut after = *progress;
-    after.intervals = progress.intervals.saturating_sub(1);
-    after.due = due_after(after.intervals, after.actions, after.sections);
-    after.next_site = interval.site + 1;
-    after.spans[interval.site as usize] = Span {
-        from: interval.from,
-        to: interval.to,
-    };
-    Verdict::Passed(after)
-}
 
-fn admit_action<K: Kind>(setup: &Setup, progress: &Progress, action: Action) -> Verdict
-    ensures { result ≡ admitted K.means setup.now progress.now (ActionRecord action) }
-{
-    if !is_lawful_action::<K>(progress, &action) {
-        return Verdict::Broken;
+    fn is_lawful_action<K: Kind>(&self, action: &Action) -> bool
+        ensures { result ≡ lawful_action K.means self.now action.now }
+    {
+        let span = self.span(action.coordinator);
+        action.article == self.article
+            && span.from < action.time
+            && action.time <= span.to
+            && self.last.precedes(action)
+            && (1..=action.time).contains(&action.transaction)
+            && K::is_known(action.operation, action.amount)
     }
-    let mut after = *progress;
-    after.actions = progress.actions.saturating_sub(1);
-    after.due = due_after(0, after.actions, after.sections);
-    after.last = action;
-    Verdict::Passed(after)
-}
 
-// A record after those before it.
-pub(crate) fn admit<K: Kind>(setup: &Setup, progress: &Progress, record: Record) -> Verdict
-    ensures { result ≡ admitted K.means setup.now progress.now «record» }
-{
-    match record {
-        Record::Header(header) => admit_header::<K>(setup, progress, header),
-        Record::Section(head) => admit_section::<K>(setup, progress, head),
-        Record::Interval(interval) => admit_interval::<K>(setup, progress, interval),
-        Record::Action(action) => admit_action::<K>(setup, progress, action),
+    fn admit_header<K: Kind>(&mut self, setup: &Setup, header: &Header) -> Result<(), Flaw>
+        ensures { Admits K.means setup.now self.old (HeaderRecord header.now) result self.new }
+    {
+        if !header.is_named::<K>(setup) {
+            return Err(Flaw::Foreign);
+        }
+        if !header.is_lawful(setup) {
+            return Err(Flaw::Broken);
+        }
+        self.due = Due::Section;
+        self.sections = header.sections;
+        Ok(())
+    }
+
+    fn admit_section<K: Kind>(&mut self, setup: &Setup, head: &SectionHead) -> Result<(), Flaw>
+        ensures { Admits K.means setup.now self.old (SectionRecord head.now) result self.new }
+    {
+        if !self.is_lawful_section(setup, head) {
+            return Err(Flaw::Broken);
+        }
+        *self = Progress {
+            due: Due::Interval,
+            sections: self.sections.saturating_sub(1),
+            intervals: head.intervals,
+            actions: head.actions,
+            article: head.article,
+            next_article: head.article + 1,
+            ..Progress::start()
+        };
+        Ok(())
+    }
+
+    fn admit_interval<K: Kind>(&mut self, setup: &Setup, interval: &Interval) -> Result<(), Flaw>
+        ensures { Admits K.means setup.now self.old (IntervalRecord interval.now) result self.new }
+    {
+        if !self.is_lawful_interval(setup, interval) {
+            return Err(Flaw::Broken);
+        }
+        self.intervals = self.intervals.saturating_sub(1);
+        self.due = due_after(self.intervals, self.actions, self.sections);
+        self.next_site = interval.site + 1;
+        self.spans[usize::from(interval.site)] = Span {
+            from: interval.from,
+            to: interval.to,
+        };
+        Ok(())
+    }
+
+    fn admit_action<K: Kind>(&mut self, setup: &Setup, action: &Action) -> Result<(), Flaw>
+        ensures { Admits K.means setup.now self.old (ActionRecord action.now) result self.new }
+    {
+        if !self.is_lawful_action::<K>(action) {
+            return Err(Flaw::Broken);
+        }
+        self.actions = self.actions.saturating_sub(1);
+        self.due = due_after(0, self.actions, self.sections);
+        self.last = *action;
+        Ok(())
+    }
+
+    // Goes on by a record, or stays where the record is refused.
+    pub(crate) fn admit<K: Kind>(&mut self, setup: &Setup, record: &Record) -> Result<(), Flaw>
+        ensures { Admits K.means setup.now self.old «record».now result self.new }
+    {
+        match record {
+            Record::Header(header) => self.admit_header::<K>(setup, header),
+            Record::Section(head) => self.admit_section::<K>(setup, head),
+            Record::Interval(interval) => self.admit_interval::<K>(setup, interval),
+            Record::Action(action) => self.admit_action::<K>(setup, action),
+        }
     }
 }

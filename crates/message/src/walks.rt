@@ -1,7 +1,7 @@
 ghost use Rattle.std.specs.Prelude.{◌≡◌, ◌+◌, ◌≤◌, length, drop};
 ghost use Rattle.message.specs.Walks.{action_in, article_after, interval_in, record_in, sender_in, size_in};
 
-use crate::decodes::{Decoded, decode};
+use crate::decodes::decode;
 use crate::reading::Due;
 use crate::records::{Interval, Record};
 use action::Action;
@@ -12,10 +12,7 @@ pub fn record_at(bytes: &[u8], at: usize) -> Option<Record>
     ensures value { result ≡ record_in (drop at bytes.now) }
     ensures fits { at ≤ length bytes.now → at + size_in result ≤ length bytes.now }
 {
-    if at >= bytes.len() {
-        return None;
-    }
-    first_record(&bytes[at..])
+    first_record(bytes.get(at..)?)
 }
 
 // The record that the bytes begin with.
@@ -30,10 +27,7 @@ fn first_record(bytes: &[u8]) -> Option<Record>
         [b'A', ..] => Due::Action,
         _ => return None,
     };
-    match decode(due, bytes) {
-        Decoded::Whole(record) => Some(record),
-        _ => None,
-    }
+    decode(due, bytes).ok().flatten()
 }
 
 // Who sent the message; 0 where the bytes begin with no header.

@@ -68,7 +68,7 @@ impl TableFault {
             TableFault::Behind(place) => by_table(13, place),
             TableFault::Ahead(place) => by_table(14, place),
             TableFault::Short(needed) => by_table(15, needed),
-            TableFault::InReader(fault) => fault.refusal(),
+            TableFault::InReader(fault) => Refusal::from(fault),
             TableFault::InHistory(fault) => Refusal::from(fault),
         }
     }

@@ -4,7 +4,7 @@ use Rattle.message.proofs.iters.ActionsIterator.next.Given as goal
 
 -- no action has been passed over
 abbrev pub invariant-loop-found : goal.invariant-loop-found
-invariant-loop-found l = actions_among l.self-inside.records ≡ l.fn.self
+invariant-loop-found l = actions_among l.self-inside.0 ≡ l.fn.self
 
 abbrev pub decreases-loop-found : goal.decreases-loop-found
-decreases-loop-found l = length l.self-inside.records
+decreases-loop-found l = length l.self-inside.0

@@ -3,8 +3,8 @@ use Rattle.message.specs.Found.{stretches_among}
 use Rattle.message.proofs.iters.IntervalsIterator.next.Given as goal
 
 -- no interval has been passed over
-abbrev pub invariant-loop-offset : goal.invariant-loop-offset
-invariant-loop-offset l = stretches_among l.self-inside.article l.self-inside.records ≡ l.fn.self
+abbrev pub invariant-loop-found : goal.invariant-loop-found
+invariant-loop-found l = stretches_among l.self-inside.article l.self-inside.records ≡ l.fn.self
 
-abbrev pub decreases-loop-offset : goal.decreases-loop-offset
-decreases-loop-offset l = length l.self-inside.records
+abbrev pub decreases-loop-found : goal.decreases-loop-found
+decreases-loop-found l = length l.self-inside.records
