@@ -1,17 +1,12 @@
 -- The actions so far that pass a test. Assumes nothing.
-use Rattle.std.proofs.Common.{◌≡◌, ℕ, ◌+◌, ◌*◌, ◌<◌, ◌≤◌, Bool, true, false, cond, eqb, List, [], ◌∷◌, ◌++◌, length, get_or, take, Ok, filter, Result, sym, refl, ap, ◌∙◌, arith}
-use Rattle.std.specs.List.{flat_map}
+use Rattle.std.proofs.Common.{◌≡◌, ℕ, ◌+◌, ◌<◌, ◌≤◌, Bool, true, cond, eqb, List, [], ◌∷◌, ◌++◌, length, get_or, take, filter, sym, ap, ◌∙◌, arith}
 use Rattle.std.proofs.lemmas.List.Elements.{filter_more}
-use Rattle.std.proofs.lemmas.List.{append-nil, get_or_default, length-append}
-use Rattle.std.proofs.lemmas.Bool.{eq-eqb, ne_eqb}
+use Rattle.std.proofs.lemmas.List.{get_or_default}
+use Rattle.std.proofs.lemmas.Bool.{eq-eqb}
 use Rattle.std.proofs.lemmas.List.Sums.{length-filter, sum_by-take-le}
 use Rattle.action.specs.declared.orders.Action.{Action}
-use Rattle.action.specs.Bytes.{action_bytes}
 use Rattle.kind.specs.Working.{on}
-use Rattle.message.specs.Buffer.{overwritten}
 use Rattle.message.specs.Progress.{no_action}
-use Rattle.table.specs.declared.faults.TableFault.{TableFault}
-use Rattle.message.proofs.Formats.{length_joined, written_more}
 
 module _ (p : Action → Bool) (xs : List Action) (i : ℕ) (within : i < length xs) (a : Action) (read : a ≡ get_or xs i a) where
   pub kept_yes : true ≡ p a → filter p (take (i + 1) xs) ≡ filter p (take i xs) ++ (a ∷ [])

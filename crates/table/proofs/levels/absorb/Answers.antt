@@ -6,7 +6,7 @@ use Rattle.message.proofs.Carried.{carried_of, stretches_of}
 use Rattle.message.proofs.Walking.{record_begins}
 use Rattle.row.specs.Rows.{on_row, raised_rows, restarted, stepped_row}
 use Rattle.table.specs.Taking.{is_new, news, taken, taken_history}
-use Rattle.table.specs.View.{held, written_in}
+use Rattle.table.specs.View.{held}
 use Rattle.table.proofs.Recording.{recorded_by, rows_recorded}
 use Rattle.table.proofs.levels.absorb.Goals as goal
 

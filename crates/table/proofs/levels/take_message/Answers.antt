@@ -1,6 +1,5 @@
-use Rattle.std.proofs.Common.{Some, sym, refl, ap, ◌∙◌, subst, arith}
+use Rattle.std.proofs.Common.{sym, refl, ap, ◌∙◌, subst, arith}
 use Rattle.action.specs.Lawful.{by_history}
-use Rattle.table.specs.declared.faults.TableFault.{TableFault}
 use Rattle.table.specs.Faults.{shown}
 use Rattle.table.specs.Taking.{TakeRefused}
 use Rattle.table.specs.View.{held}

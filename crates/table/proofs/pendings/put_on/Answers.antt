@@ -11,6 +11,6 @@ loop-action-preserved c =
     let a = c.args.article in
     let first = drop_more c.args.actions.now c.loop-action.action-index no_action c.loop-action-test.true in
     elim c.if-action-article.branch [
-      | then-action-article w ↦ put_first (λ x. eqb x.article a) _ _ _ _ _ _ _ _ first c.loop-action.invariant (sym (eq-eqb _ a w.if-action-article.true)) _ _ (w.at-is ∙ w.emit-at.ensures.end) (w.buffer-is ∙ w.emit-at.ensures.bytes)
+      | then-action-article w ↦ put_first (λ x. eqb x.article a) _ _ _ _ _ _ _ _ first c.loop-action.invariant (sym (eq-eqb _ a w.if-action-article.true)) _ _ c.if-action-article.auto.buffer (w.at-is ∙ w.emit-at.ensures.end) (w.buffer-is ∙ w.emit-at.ensures.bytes)
       | else-action-article w ↦ leave_first (λ x. eqb x.article a) _ _ _ _ _ _ _ _ first c.loop-action.invariant (sym (ne_eqb _ a w.if-action-article.false)) _ _ w.at-is w.buffer-is
     ]

@@ -1,4 +1,3 @@
-use Rattle.table.specs.View.{held}
 use Rattle.table.proofs.Taken.{take_keeps}
 use Rattle.table.proofs.tables.Table.take.Goals as goal
 
