@@ -11,9 +11,5 @@ module _ {X : Type 0} (p q : X → Bool) where
       by_test true rest = ap (λ l. cond (p x) (x ∷ l) l) rest
       by_test false rest = rest
 
-  pub kept_by_same : ((x : X) → p x ≡ q x) → (xs : List X) → filter p xs ≡ filter q xs
-  kept_by_same same [] = refl
-  kept_by_same same (x ∷ xs) = λ i. cond (same x i) (x ∷ kept_by_same same xs i) (kept_by_same same xs i)
-
 pub kept_by_few : {X : Type 0} (p : X → Bool) (xs : List X) → length (filter p xs) ≤ length xs
 kept_by_few p xs = omega (arith, length-filter p xs, count_by-le-length p xs)

@@ -1,5 +1,3 @@
-pub mod Appended
+pub mod Finding
 pub mod Kept
-pub mod Newness
 pub mod RowLaws
-pub mod Sifting

@@ -1,12 +1,8 @@
 -- What the passes over a message and over the history look for, by rows. Assumes nothing.
-use Rattle.std.specs.Prelude.{ℕ, min, Bool, cond, ◌&&◌, List, Some, None, fold, Option, ◌==◌, nat_le, nat_lt}
+use Rattle.std.specs.Prelude.{ℕ, min, Bool, ◌&&◌, List, fold, ◌==◌, nat_le, nat_lt}
 use Rattle.std.specs.List.{range_with_len}
 use Rattle.action.specs.declared.orders.Action.{Action}
 use Rattle.message.specs.declared.records.Interval.{Interval}
-use Rattle.message.specs.declared.records.Record.{Record}
-use Rattle.message.specs.declared.records.Record.TheVariants as RecordKinds
-use Rattle.row.specs.declared.intervals.Test.{Test}
-use Rattle.row.specs.declared.intervals.Test.TheVariants.{Behind, Ahead}
 use Rattle.row.specs.declared.rows.Row.{Row}
 use Rattle.row.specs.Entries.{entry_in, raised}
 
@@ -16,13 +12,6 @@ use Rattle.row.specs.Entries.{entry_in, raised}
 abbrev pub is_new_in : List Row → ℕ → Action → Bool
 is_new_in rows own x = nat_lt (entry_in rows x.article own x.coordinator) x.time
 
--- the action that the record is, where it is one and new
-abbrev pub new_in : List Row → ℕ → Record → Option Action
-new_in rows own (RecordKinds.Header _) = None
-new_in rows own (RecordKinds.Section _) = None
-new_in rows own (RecordKinds.Interval _) = None
-new_in rows own (RecordKinds.Action x) = cond (is_new_in rows own x) (Some x) None
-
 -- the interval begins above what this table has reached
 abbrev pub is_behind_in : List Row → ℕ → ℕ → Interval → Bool
 is_behind_in rows own a i = nat_lt (entry_in rows a own i.site) i.from
@@ -30,10 +19,6 @@ is_behind_in rows own a i = nat_lt (entry_in rows a own i.site) i.from
 -- the interval says more of the own site than the site has done
 abbrev pub is_ahead_in : List Row → ℕ → ℕ → Interval → Bool
 is_ahead_in rows own a i = i.site == own && nat_lt (entry_in rows a own own) i.to
-
-abbrev pub tested : Test → List Row → ℕ → ℕ → Interval → Bool
-tested Behind = is_behind_in
-tested Ahead = is_ahead_in
 
 -- this table and the sender have what the interval carries
 abbrev pub raised_by : ℕ → ℕ → List (List ℕ) → ℕ × Interval → List (List ℕ)

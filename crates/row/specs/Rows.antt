@@ -16,8 +16,12 @@ abbrev pub restarted : Row → Row
 restarted r = record { base = r.base; kept = r.base; known = r.known }
 
 -- a change to the row of an article, where there is one
+abbrev pub changed_row : (Row → Row) → List Row → ℕ → List Row
+changed_row change rows a = slice_set rows a (change (slice_index_or rows a no_row))
+
+-- the same where what changes the row tells the article
 abbrev pub on_article_row : {X : Type 0} → (X → ℕ) → (X → Row → Row) → List Row → X → List Row
-on_article_row article change rows x = slice_set rows (article x) (change x (slice_index_or rows (article x) no_row))
+on_article_row article change rows x = changed_row (change x) rows (article x)
 
 -- a change to the row of an action's article
 abbrev pub on_row : (Action → Row → Row) → List Row → Action → List Row

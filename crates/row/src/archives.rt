@@ -1,45 +1,12 @@
-// The passes of archiving: how far every site is known to be, and the history's actions up to there.
-ghost use Rattle.std.specs.Prelude.{◌≡◌, ◌<◌, not, length, fold, filter};
-ghost use Rattle.std.specs.List.{remove, range_with_len};
+// The passes of archiving over the history.
+ghost use Rattle.std.specs.Prelude.{◌≡◌, not, length, filter};
 ghost use Rattle.kind.specs.Working.{working};
-ghost use Rattle.row.specs.Passes.{is_up_to, least_in, least_of_in};
+ghost use Rattle.row.specs.Passes.{is_up_to};
 
-use crate::intervals::entry;
 use crate::places::{place, take_out};
-use crate::rows::Row;
-use action::{Action, Setup};
-use history::History;
+use action::Action;
+use history::{History, actions};
 use kind::Kind;
-
-// The least of a time and the article's known entries of site `z`.
-fn least_of(rows: &[Row], sites: u8, article: u8, time: u32, z: u8) -> u32
-    ensures { result ≡ least_of_in rows.now sites article time z }
-{
-    let mut least = time;
-    for q in 0..sites {
-        least = least.min(entry(rows, article, z, q));
-    }
-    least
-}
-
-// The least of a time and the article's known entries of all sites.
-fn least_of_all(rows: &[Row], sites: u8, article: u8, time: u32) -> u32
-    ensures { result ≡ fold (least_of_in rows.now sites article) time (range_with_len 0 sites) }
-{
-    let mut least = time;
-    for z in 0..sites {
-        least = least_of(rows, sites, article, least, z);
-    }
-    least
-}
-
-// The least of all the article's known entries, over all pairs of sites.
-pub fn least_entry(rows: &[Row], setup: Setup, article: u8) -> u32
-    ensures { result ≡ least_in rows.now setup.sites article }
-{
-    let first = entry(rows, article, 0, 0);
-    least_of_all(rows, setup.sites, article, first)
-}
 
 // Is the action on the article, and not later than the time?
 fn is_up_to(article: u8, time: u32, action: &Action) -> bool
@@ -48,15 +15,18 @@ fn is_up_to(article: u8, time: u32, action: &Action) -> bool
     action.article == article && action.time <= time
 }
 
-// Works an action into a base, and takes place `i` out of the history.
-fn move_action<K: Kind, H: History>(base: &mut i64, history: &mut H, i: usize, action: &Action)
-    requires { i < length (H.items history.old) }
-    ensures figure { base.new ≡ K.means.steps base.old action.now.operation action.now.amount }
-    ensures list { H.items history.new ≡ remove (H.items history.old) i }
+// Takes the article's actions up to a time out of the history, from the end, so that no place yet to
+// be looked at moves.
+fn take_out_up_to<H: History>(history: &mut H, article: u8, time: u32)
+    ensures list { H.items history.new ≡ filter (λ x. not (is_up_to article time x)) (H.items history.old) }
     ensures fixed { H.room history.new ≡ H.room history.old }
 {
-    *base = K::step(*base, action.operation, action.amount);
-    take_out(history, i);
+    for i in (0..history.count()).rev() {
+        let action = place(history, i);
+        if is_up_to(article, time, &action) {
+            take_out(history, i);
+        }
+    }
 }
 
 // Moves the article's actions up to a time from the history into a base, in order. Answers how many
@@ -72,16 +42,14 @@ pub fn move_actions<K: Kind, H: History>(
     ensures list { H.items history.new ≡ filter (λ x. not (is_up_to article time x)) (H.items history.old) }
     ensures fixed { H.room history.new ≡ H.room history.old }
 {
-    let mut i = 0;
-    let mut gone = 0;
-    while i < history.count() {
-        let action = place(history, i);
+    let gone = actions(history)
+        .filter(|action| is_up_to(article, time, action))
+        .count();
+    for action in actions(history) {
         if is_up_to(article, time, &action) {
-            move_action::<K, H>(base, history, i, &action);
-            gone += 1;
-        } else {
-            i += 1;
+            *base = K::step(*base, action.operation, action.amount);
         }
     }
+    take_out_up_to(history, article, time);
     gone
 }

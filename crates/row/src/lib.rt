@@ -3,14 +3,16 @@
 #![tactic(auto)]
 
 mod archives;
+mod entries;
 mod intervals;
+mod ledgers;
+mod makes;
 mod places;
 mod posts;
 mod rows;
 mod takes;
 
-pub use archives::{least_entry, move_actions};
-pub use intervals::{Test, first_interval};
-pub use posts::{append, raise_rows, work_rows};
+pub use archives::move_actions;
+pub use ledgers::Ledger;
+pub use places::append;
 pub use rows::Row;
-pub use takes::{count_new, insert_new, record_rows};

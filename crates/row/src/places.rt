@@ -1,5 +1,5 @@
 // The history's places: what stands at one, and where an action belongs.
-ghost use Rattle.std.specs.Prelude.{◌≡◌, ◌<◌, length, slice_index_or};
+ghost use Rattle.std.specs.Prelude.{◌≡◌, ◌+◌, ◌<◌, ◌≤◌, ◌++◌, length, slice_index_or};
 ghost use Rattle.std.specs.List.{remove};
 ghost use Rattle.action.specs.Order.{placed, place_of};
 
@@ -11,10 +11,7 @@ pub(crate) fn place<H: History>(history: &H, i: usize) -> Action
     requires { i < length (H.items history.now) }
     ensures { result ≡ slice_index_or (H.items history.now) i result }
 {
-    match history.read(i) {
-        Ok(action) => action,
-        Err(_) => unreachable(),
-    }
+    history.read(i).unwrap()
 }
 
 // Takes out the action at a place that the history has.
@@ -23,10 +20,7 @@ pub(crate) fn take_out<H: History>(history: &mut H, i: usize)
     ensures list { H.items history.new ≡ remove (H.items history.old) i }
     ensures fixed { H.room history.new ≡ H.room history.old }
 {
-    match history.remove(i) {
-        Ok(_) => {}
-        Err(_) => unreachable(),
-    }
+    history.remove(i).unwrap();
 }
 
 // The place behind the last action that precedes this one, looked for from the end, since what comes
@@ -34,13 +28,10 @@ pub(crate) fn take_out<H: History>(history: &mut H, i: usize)
 fn place_of<H: History>(history: &H, action: &Action) -> usize
     ensures { result ≡ place_of (H.items history.now) action.now }
 {
-    let mut end = history.count();
-    while end > 0 {
-        let last = place(history, end - 1);
-        if last.precedes(action) {
-            return end;
+    for i in (0..history.count()).rev() {
+        if place(history, i).precedes(action) {
+            return i + 1;
         }
-        end -= 1;
     }
     0
 }
@@ -52,8 +43,17 @@ pub(crate) fn insert_in_order<H: History>(history: &mut H, action: &Action)
     ensures fixed { H.room history.new ≡ H.room history.old }
 {
     let i = place_of(history, action);
-    match history.insert(i, *action) {
-        Ok(()) => {}
-        Err(_) => unreachable(),
+    history.insert(i, *action).unwrap();
+}
+
+// Puts the actions at the end of the history.
+pub fn append<H: History>(history: &mut H, actions: &[Action])
+    requires { length (H.items history.old) + length actions.now ≤ H.room history.old }
+    ensures list { H.items history.new ≡ H.items history.old ++ actions.now }
+    ensures fixed { H.room history.new ≡ H.room history.old }
+{
+    for action in actions {
+        let end = history.count();
+        history.insert(end, *action).unwrap();
     }
 }

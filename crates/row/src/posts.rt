@@ -1,116 +1,91 @@
-ghost use Rattle.std.specs.Prelude.{◌≡◌, ◌+◌, ◌≤◌, max, ◌++◌, map, length, if◌then◌else◌, fold, slice_index, slice_set};
-ghost use Rattle.row.specs.Rows.{on_row, raised_row, restarted, stepped_row};
+// What actions do to a ledger's rows.
+ghost use Rattle.std.specs.Prelude.{◌≡◌, map, if◌then◌else◌, fold};
+ghost use Rattle.std.specs.Fn.{FnOnceReturnsAtMut};
+ghost use Rattle.row.specs.declared.rows.Row.{Row as ARow};
+ghost use Rattle.row.specs.Rows.{changed_row, on_row, raised_row, restarted, stepped_row};
 
-use crate::places::place;
+use crate::ledgers::Ledger;
 use crate::rows::Row;
 use action::Action;
-use history::History;
+use history::{History, actions};
 use kind::Kind;
 
-// Raises the entry of a site, where there is one and it is lower.
-fn raise_entry(entries: &mut [u32], q: u8, to: u32)
-    ensures { entries.new ≡ slice_set entries.old q (max (slice_index entries.old q) to) }
-{
-    let q = q as usize;
-    if q < entries.len() {
-        entries[q] = entries[q].max(to);
-    }
-}
-
-impl Row {
-    // Raises `known[z][q]` to a time, where there is such an entry and it is lower.
-    pub(crate) fn raise(&mut self, z: u8, q: u8, to: u32)
-        ensures { self.new ≡ raised_row z q to self.old }
+impl Ledger {
+    // Changes the row of an article, where there is one, as the closure does.
+    pub(crate) fn on_row<F: FnOnce(&mut Row)>(&mut self, article: u8, change: F)
+        requires { F.IsAlwaysCallable change }
+        ensures rows { (f : ARow → ARow) → ((r s : ARow) → FnOnceReturnsAtMut F.FnOnce change r tt s → s ≡ f r) → self.new.rows ≡ changed_row f self.old.rows article }
+        ensures fixed { self.new.setup ≡ self.old.setup }
     {
-        if z < 8 {
-            raise_entry(&mut self.known[z as usize], q, to);
+        // An index and not `get_mut`, after which nothing is known of an array's elements.
+        let article = article as usize;
+        if article < self.rows.len() {
+            change(&mut self.rows[article]);
         }
     }
-}
 
-// Raises the own entry of the action's article to the action's time.
-fn raise_row(rows: &mut [Row], own: u8, action: &Action)
-    ensures { rows.new ≡ on_row (λ x. raised_row own own x.time) rows.old action.now }
-{
-    let article = action.article as usize;
-    if article < rows.len() {
-        let row = &mut rows[article];
-        row.raise(own, own, action.time);
+    // Raises the own entry of each action's article to the action's time.
+    pub fn raise_posted(&mut self, actions: &[Action])
+        ensures rows { self.new.rows ≡ fold (on_row (λ x. raised_row self.old.setup.own self.old.setup.own x.time)) self.old.rows actions.now }
+        ensures fixed { self.new.setup ≡ self.old.setup }
+    {
+        let own = self.setup.own;
+        for action in actions {
+            self.on_row(action.article, |row| row.raise(own, own, action.time));
+        }
     }
-}
 
-// Raises the own entry of each action's article.
-pub fn raise_rows(rows: &mut [Row], own: u8, actions: &[Action])
-    ensures { rows.new ≡ fold (on_row (λ x. raised_row own own x.time)) rows.old actions.now }
-{
-    for action in actions {
-        raise_row(rows, own, action);
+    // Steps the kept figure of the action's article.
+    pub(crate) fn step<K: Kind>(&mut self, action: &Action)
+        ensures rows { self.new.rows ≡ on_row (stepped_row K.means.steps) self.old.rows action.now }
+        ensures fixed { self.new.setup ≡ self.old.setup }
+    {
+        self.on_row(action.article, |row| row.step::<K>(action));
     }
-}
 
-// Steps the kept figure of the action's article.
-pub(crate) fn step_row<K: Kind>(rows: &mut [Row], action: &Action)
-    ensures { rows.new ≡ on_row (stepped_row K.means.steps) rows.old action.now }
-{
-    let article = action.article as usize;
-    if article < rows.len() {
-        let row = &mut rows[article];
-        row.kept = K::step(row.kept, action.operation, action.amount);
+    // Steps the kept figures by the actions, in order.
+    #[tactic(auto, using(std::proofs::lemmas::List::Sums::fold_more))]
+    fn step_all<K: Kind>(&mut self, actions: &[Action])
+        ensures rows { self.new.rows ≡ fold (on_row (stepped_row K.means.steps)) self.old.rows actions.now }
+        ensures fixed { self.new.setup ≡ self.old.setup }
+    {
+        for action in actions {
+            self.step::<K>(action);
+        }
     }
-}
 
-// Steps the kept figures by the actions, in order.
-fn step_rows<K: Kind>(rows: &mut [Row], actions: &[Action])
-    ensures { rows.new ≡ fold (on_row (stepped_row K.means.steps)) rows.old actions.now }
-{
-    for action in actions {
-        step_row::<K>(rows, action);
+    // Sets every kept figure back to its base.
+    #[tactic(auto, using(std::proofs::lemmas::List::Edits::map_over_more))]
+    fn restart(&mut self)
+        ensures rows { self.new.rows ≡ map restarted self.old.rows }
+        ensures fixed { self.new.setup ≡ self.old.setup }
+    {
+        for row in &mut self.rows {
+            row.restart();
+        }
     }
-}
 
-// Sets every kept figure back to its base.
-fn restart(rows: &mut [Row])
-    ensures { rows.new ≡ map restarted rows.old }
-{
-    for row in rows.iter_mut() {
-        row.kept = row.base;
+    // Works every figure again, from its base by the history.
+    pub(crate) fn rework<K: Kind, H: History>(&mut self, history: &H)
+        ensures rows { self.new.rows ≡ fold (on_row (stepped_row K.means.steps)) (map restarted self.old.rows) (H.items history.now) }
+        ensures fixed { self.new.setup ≡ self.old.setup }
+    {
+        self.restart();
+        for action in actions(history) {
+            self.step::<K>(&action);
+        }
     }
-}
 
-// Works every figure again, from its base by the history.
-pub(crate) fn rework<K: Kind, H: History>(rows: &mut [Row], history: &H)
-    ensures { rows.new ≡ fold (on_row (stepped_row K.means.steps)) (map restarted rows.old) (H.items history.now) }
-{
-    restart(rows);
-    for i in 0..history.count() {
-        let action = place(history, i);
-        step_row::<K>(rows, &action);
-    }
-}
-
-// Works the figures after new actions have gone into the history: a commuting kind steps the kept
-// figures by the new actions alone, any other works again.
-pub fn work_rows<K: Kind, H: History>(rows: &mut [Row], history: &H, new: &[Action])
-    ensures { rows.new ≡ (if K.means.commutes then fold (on_row (stepped_row K.means.steps)) rows.old new.now else fold (on_row (stepped_row K.means.steps)) (map restarted rows.old) (H.items history.now)) }
-{
-    if K::is_commuting() {
-        step_rows::<K>(rows, new);
-    } else {
-        rework::<K, H>(rows, history);
-    }
-}
-
-// Puts the actions at the end of the history.
-pub fn append<H: History>(history: &mut H, actions: &[Action])
-    requires { length (H.items history.old) + length actions.now ≤ H.room history.old }
-    ensures list { H.items history.new ≡ H.items history.old ++ actions.now }
-    ensures fixed { H.room history.new ≡ H.room history.old }
-{
-    for action in actions {
-        let end = history.count();
-        match history.insert(end, *action) {
-            Ok(()) => {}
-            Err(_) => unreachable(),
+    // Works the figures after new actions have gone into the history: a commuting kind steps the kept
+    // figures by the new actions alone, any other works again.
+    pub fn work<K: Kind, H: History>(&mut self, history: &H, new: &[Action])
+        ensures rows { self.new.rows ≡ (if K.means.commutes then fold (on_row (stepped_row K.means.steps)) self.old.rows new.now else fold (on_row (stepped_row K.means.steps)) (map restarted self.old.rows) (H.items history.now)) }
+        ensures fixed { self.new.setup ≡ self.old.setup }
+    {
+        if K::is_commuting() {
+            self.step_all::<K>(new);
+        } else {
+            self.rework::<K, H>(history);
         }
     }
 }

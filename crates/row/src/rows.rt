@@ -1,3 +1,10 @@
+ghost use Rattle.std.specs.Prelude.{◌≡◌};
+ghost use Rattle.row.specs.Entries.{at};
+ghost use Rattle.row.specs.Rows.{raised_row, restarted, stepped_row};
+
+use action::Action;
+use kind::Kind;
+
 // What is kept of one article: the figure up to where the history begins, the figure with the
 // history, and `known[z][q]`, up to what time site z is known to have the actions of site q.
 #[derive(Clone, Copy)]
@@ -5,4 +12,45 @@ pub struct Row {
     pub base: i64,
     pub kept: i64,
     pub known: [[u32; 8]; 8],
+}
+
+impl Row {
+    // `known[z][q]`, 0 where there is no such entry.
+    pub(crate) fn entry(&self, z: u8, q: u8) -> u32
+        ensures { result ≡ at self.now.known z q }
+    {
+        self.known
+            .get(z as usize)
+            .and_then(|entries| entries.get(q as usize))
+            .copied()
+            .unwrap_or(0)
+    }
+
+    // Raises `known[z][q]` to a time, where there is such an entry and it is lower.
+    pub(crate) fn raise(&mut self, z: u8, q: u8, to: u32)
+        ensures { self.new ≡ raised_row z q to self.old }
+    {
+        // An index and not `get_mut`, after which nothing is known of an array's elements.
+        if z < 8 {
+            let entries = &mut self.known[z as usize];
+            if q < 8 {
+                let entry = &mut entries[q as usize];
+                *entry = (*entry).max(to);
+            }
+        }
+    }
+
+    // Steps the kept figure.
+    pub(crate) fn step<K: Kind>(&mut self, action: &Action)
+        ensures { self.new ≡ stepped_row K.means.steps action.now self.old }
+    {
+        self.kept = K::step(self.kept, action.operation, action.amount);
+    }
+
+    // Sets the kept figure back to the base.
+    pub(crate) fn restart(&mut self)
+        ensures { self.new ≡ restarted self.old }
+    {
+        self.kept = self.base;
+    }
 }

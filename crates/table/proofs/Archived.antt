@@ -16,7 +16,8 @@ use Rattle.table.specs.Archiving.{Archived, archived, archived_row, is_old, leas
 use Rattle.table.specs.Sound.{Fitting, Sound, Square}
 use Rattle.table.specs.View.{View, entry, row}
 use Rattle.row.specs.Entries.{at, no_row}
-use Rattle.row.proofs.Kept.{kept_by_both, kept_by_few, kept_by_same}
+use Rattle.std.proofs.lemmas.List.Elements.{filter_agree}
+use Rattle.row.proofs.Kept.{kept_by_both, kept_by_few}
 use Rattle.table.proofs.Rising.{has_counting}
 use Rattle.row.proofs.RowLaws.{by_row, length_each_row, row_each}
 
@@ -72,12 +73,12 @@ module _ (v : View) (a : ℕ) where
       let here : Action → Bool = λ x. eqb x.article a in
       let old : Action → Bool = λ x. leb x.time (least v a) in
       let late : Action → Bool = λ x. not (leb x.time (least v a)) in
-      split_at (least v a) (on a v.history) (ascending_kept here v.history up) ∙ (λ i. kept_by_both old here v.history i ++ (kept_by_both late here v.history ∙ sym (kept_by_both here stays v.history ∙ kept_by_same (λ x. stays x && here x) (λ x. here x && late x) (λ x. on_still (here x) (old x)) v.history)) i)
+      split_at (least v a) (on a v.history) (ascending_kept here v.history up) ∙ (λ i. kept_by_both old here v.history i ++ (kept_by_both late here v.history ∙ sym (kept_by_both here stays v.history ∙ filter_agree (λ x. stays x && here x) (λ x. here x && late x) (λ x. on_still (here x) (old x)) v.history)) i)
 
   -- and all on another article stay
   pub archived_others : (b : ℕ) → (b ≡ a → ⊥) → on b (filter (λ x. not (is_old v a x)) v.history) ≡ on b v.history
   archived_others b other =
-      kept_by_both (λ x. eqb x.article b) stays v.history ∙ kept_by_same (λ x. stays x && eqb x.article b) (λ x. eqb x.article b) (λ x.
+      kept_by_both (λ x. eqb x.article b) stays v.history ∙ filter_agree (λ x. stays x && eqb x.article b) (λ x. eqb x.article b) (λ x.
       elsewhere (eqb x.article a) (leb x.time (least v a)) (eqb x.article b) (λ here. ne_eqb x.article a (λ e. other (sym (eqb-true x.article b here) ∙ e)))) v.history
 
 -- SOUNDNESS

@@ -6,6 +6,7 @@ pub mod Greatest
 pub mod Lawfulness
 pub mod Offering
 pub mod Posting
+pub mod Putting
 pub mod Recording
 pub mod Refusals
 pub mod Rising

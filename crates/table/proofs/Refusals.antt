@@ -1,11 +1,16 @@
 -- How the checks of a take end. Assumes nothing.
-use Rattle.std.proofs.Common.{◌≡◌, ℕ, ◌+◌, ◌<◌, ◌≤◌, Bool, leb, length, Some, None, Option, sym, ap, ◌∙◌}
+use Rattle.std.proofs.Common.{◌≡◌, ℕ, ◌+◌, ◌<◌, ◌≤◌, Bool, false, leb, List, length, Some, None, Ok, filter, Option, sym, ap, ◌∙◌, arith}
 use Rattle.std.proofs.lemmas.Bool.{le-leb, lt-leb}
 use Rattle.action.specs.declared.refusals.Refusal.{Refusal}
 use Rattle.action.specs.Lawful.{by_history, by_table, unless}
-use Rattle.message.specs.Format.{Message, records}
-use Rattle.message.specs.Walks.{first_of}
-use Rattle.table.specs.Taking.{is_ahead, is_behind, news, take_refusal, unless_found}
+use Rattle.kind.specs.Meaning.{Meaning}
+use Rattle.message.specs.Format.{Message, format, records}
+use Rattle.message.specs.Lawful.{LawfulMessage}
+use Rattle.message.specs.Walks.{actions_of, first_of, records_in}
+use Rattle.message.proofs.Carried.{carried_of}
+use Rattle.message.proofs.Walking.{lawful_records}
+use Rattle.table.specs.Taking.{TakeRefused, Took, is_ahead, is_behind, is_new, news, take_refusal, taken, unless_found}
+use Rattle.table.specs.Taking.TakeRefused.{checked}
 use Rattle.table.specs.View.{View}
 
 module _ (v : View) (m : Message) where
@@ -34,3 +39,35 @@ module _ (v : View) (m : Message) where
 
       pub unrefused : needed ≤ v.capacity → take_refusal v m ≡ None
       unrefused fits = past_ahead ∙ ap full (le-leb needed v.capacity fits)
+
+-- the same by the message's bytes, where no transaction is open
+module _ (kind : Meaning) (number_fits : kind.number ≤ 255) (v : View) (shut : v.is_open ≡ false) (sent : Message) (lawful : LawfulMessage kind v.setup sent) (bytes : List ℕ) (is : bytes ≡ format sent) where
+  pub told : records_in bytes ≡ records sent
+  told = lawful_records kind v.setup bytes sent number_fits lawful is
+
+  pub new_in : filter (is_new v) (actions_of (records_in bytes)) ≡ news v sent
+  new_in = ap (λ rs. filter (is_new v) (actions_of rs)) told ∙ ap (filter (is_new v)) (carried_of sent)
+
+  refused : (refusal : Refusal) → take_refusal v sent ≡ Some refusal → TakeRefused kind v bytes refusal
+  refused refusal h = checked shut (sent, lawful, is, h)
+
+  pub take_behind : (place : ℕ) → Some place ≡ first_of (is_behind v) 0 0 (records_in bytes) → TakeRefused kind v bytes (by_table 13 place)
+  take_behind place found = refused _ (refused_behind v sent place (found ∙ ap (first_of (is_behind v) 0 0) told))
+
+  module _ (not_behind : None ≡ first_of (is_behind v) 0 0 (records_in bytes)) where
+    begun : None ≡ first_of (is_behind v) 0 0 (records sent)
+    begun = not_behind ∙ ap (first_of (is_behind v) 0 0) told
+
+    pub take_ahead : (place : ℕ) → Some place ≡ first_of (is_ahead v) 0 0 (records_in bytes) → TakeRefused kind v bytes (by_table 14 place)
+    take_ahead place found = refused _ (refused_ahead v sent begun place (found ∙ ap (first_of (is_ahead v) 0 0) told))
+
+    module _ (not_ahead : None ≡ first_of (is_ahead v) 0 0 (records_in bytes)) where
+      within : None ≡ first_of (is_ahead v) 0 0 (records sent)
+      within = not_ahead ∙ ap (first_of (is_ahead v) 0 0) told
+
+      pub take_full : v.capacity < length v.history + length (filter (is_new v) (actions_of (records_in bytes))) → TakeRefused kind v bytes (by_history 16 v.capacity)
+      take_full over = refused _ (refused_full v sent begun within (omega (arith, ap length new_in)))
+
+      pub take_whole : length v.history + length (filter (is_new v) (actions_of (records_in bytes))) ≤ v.capacity → (n : ℕ) (w : View) → n ≡ length (filter (is_new v) (actions_of (records_in bytes))) → w ≡ taken kind v sent → Took kind v bytes (Ok n) w
+      take_whole fits n w count after =
+          (shut, (sent, lawful, is, unrefused v sent begun within (omega (arith, ap length new_in)), count ∙ ap length new_in, after))

@@ -1,13 +1,13 @@
 -- What open, write, commit and abandon do to a table. Assumes nothing.
 use Rattle.std.specs.Prelude.{◌≡◌, ℕ, ◌+◌, max, Bool, true, false, cond, not, ◌&&◌, List, [], ◌∷◌, ◌++◌, map, length, ℤ, Some, None, Ok, Err, fold, filter, Option, Result, ◌==◌, nat_le, nat_lt}
-use Rattle.std.specs.List.{range_with_len}
+use Rattle.std.specs.List.{flat_map, range_with_len}
 use Rattle.action.specs.declared.orders.Action.{Action}
 use Rattle.action.specs.declared.refusals.Refusal.{Refusal}
 use Rattle.action.specs.Lawful.{by_history, by_table, unless}
 use Rattle.kind.specs.Meaning.{Meaning}
 use Rattle.kind.specs.Working.{on, working}
 use Rattle.message.specs.Buffer.{overwritten}
-use Rattle.message.specs.Format.{Message, Section, format}
+use Rattle.message.specs.Format.{Message, Section, format, section_format}
 use Rattle.table.specs.declared.faults.TableFault.{TableFault}
 use Rattle.row.specs.declared.rows.Row.{Row}
 use Rattle.table.specs.declared.tickets.Ticket.{Ticket}
@@ -138,6 +138,10 @@ transaction_section v a =
       intervals = record { site = own; from = entry v a own own; to = max (entry v a own own) (latest a v.pending) } ∷ [];
       actions = on a v.pending;
     }
+
+-- their sections' bytes, which is all that the message has behind its header
+abbrev pub sections_bytes : View → List ℕ
+sections_bytes v = flat_map section_format (map (transaction_section v) (written_articles v))
 
 abbrev pub transaction_message : Meaning → View → Message
 transaction_message kind v = record {

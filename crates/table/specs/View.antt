@@ -1,11 +1,13 @@
 -- What a table holds, as the contracts of its calls speak of it. Assumes nothing.
-use Rattle.std.specs.Prelude.{ℕ, Bool, false, List, [], take, replicate, slice_index_or}
+use Rattle.std.specs.Prelude.{ℕ, Bool, false, List, [], Some, None, Option, replicate, slice_index_or}
+use Rattle.std.specs.Option.{is_some}
 use Rattle.action.specs.declared.orders.Action.{Action}
 use Rattle.action.specs.declared.setups.Setup.{Setup}
+use Rattle.arrayvec.specs.ArrayVec.{ArrayVec}
 use Rattle.kind.specs.Meaning.{Meaning}
 use Rattle.row.specs.declared.rows.Row.{Row}
 use Rattle.row.specs.Entries.{at, no_row, start_row}
-use Rattle.table.specs.declared.tables.Table.{Table}
+use Rattle.table.specs.declared.state.State.{State}
 
 pub record View : Type 0 where
   pub setup : Setup
@@ -20,16 +22,26 @@ pub record View : Type 0 where
   -- how many places the history has in all
   pub capacity : ℕ
 
-abbrev pub view : {K H : Type 0} → (H → List Action) → (H → ℕ) → Table K H → View
-view items room t = record {
-  setup = t.state.setup;
-  clock = t.state.clock;
-  is_open = t.state.is_open;
-  pending = take t.state.writes t.state.pending;
-  rows = t.state.rows;
-  history = items t.history;
-  capacity = room t.history;
+-- what a transaction has written, nothing where none is open
+abbrev pub written_in : Option (ArrayVec Action) → List Action
+written_in (Some pending) = pending.items
+written_in None = []
+
+-- the state and the history, of so many places, as one
+abbrev pub held : State → List Action → ℕ → View
+held s history capacity = record {
+  setup = s.ledger.setup;
+  clock = s.clock;
+  is_open = is_some s.transaction;
+  pending = written_in s.transaction;
+  rows = s.ledger.rows;
+  history = history;
+  capacity = capacity;
 }
+
+-- the state alone, as if its history had no places
+abbrev pub bare : State → View
+bare s = held s [] 0
 
 abbrev pub row : View → ℕ → Row
 row v a = slice_index_or v.rows a no_row

@@ -1,6 +1,6 @@
 ghost use Rattle.std.specs.Prelude.{◌≡◌};
 ghost use Rattle.table.specs.Answers.{Answers, figure, figure_refusal, known_refusal, open_item, open_item_refusal};
-ghost use Rattle.table.specs.View.{entry, view};
+ghost use Rattle.table.specs.View.{entry};
 
 use crate::faults::TableFault;
 use crate::tables::Table;
@@ -9,41 +9,41 @@ use kind::Kind;
 
 impl<K: Kind, H: History> Table<K, H> {
     pub fn clock(&self) -> u32
-        ensures { result ≡ (view H.items H.room self.now).clock }
+        ensures { result ≡ self.now.clock }
     {
         self.state.clock
     }
 
     // The figure that an article has here.
     pub fn figure(&self, article: u8) -> Result<i64, TableFault>
-        ensures { Answers (figure_refusal (view H.items H.room self.now) article) (figure (view H.items H.room self.now) article) result }
+        ensures { Answers (figure_refusal self.now article) (figure self.now article) result }
     {
-        if article >= self.state.setup.articles {
+        if article >= self.state.ledger.setup.articles {
             return Err(TableFault::NoArticle);
         }
-        Ok(self.state.rows[article as usize].kept)
+        Ok(self.state.ledger.rows[article as usize].kept)
     }
 
     // Up to what time site `z` is known to have the actions of site `q` on an article. The own
     // site's entries are the reception vector.
     pub fn known(&self, article: u8, z: u8, q: u8) -> Result<u32, TableFault>
-        ensures { Answers (known_refusal (view H.items H.room self.now) article z q) (entry (view H.items H.room self.now) article z q) result }
+        ensures { Answers (known_refusal self.now article z q) (entry self.now article z q) result }
     {
-        let setup = self.state.setup;
+        let setup = self.state.ledger.setup;
         if article >= setup.articles {
             return Err(TableFault::NoArticle);
         }
         if z >= setup.sites || q >= setup.sites {
             return Err(TableFault::NoSite);
         }
-        Ok(self.state.rows[article as usize].known[z as usize][q as usize])
+        Ok(self.state.ledger.entry(article, z, q))
     }
 
     // Is site `peer` not known to have all of this site's own actions on the article?
     pub fn open_item(&self, article: u8, peer: u8) -> Result<bool, TableFault>
-        ensures { Answers (open_item_refusal (view H.items H.room self.now) article peer) (open_item (view H.items H.room self.now) article peer) result }
+        ensures { Answers (open_item_refusal self.now article peer) (open_item self.now article peer) result }
     {
-        let own = self.state.setup.own;
+        let own = self.state.ledger.setup.own;
         let theirs = self.known(article, peer, own)?;
         let ours = self.known(article, own, own)?;
         Ok(theirs < ours)

@@ -53,11 +53,11 @@ fn by_table(number: u8, place: usize) -> Refusal
     }
 }
 
-impl TableFault {
-    pub fn refusal(&self) -> Refusal
-        ensures { result ≡ shown self.now }
-    {
-        match *self {
+impl From<TableFault> for Refusal {
+    ghost from_gives = { λ e r. r ≡ shown e };
+
+    fn from(fault: TableFault) -> Refusal {
+        match fault {
             TableFault::AlreadyOpen => by_table(2, 0),
             TableFault::NotItsTicket => by_table(3, 0),
             TableFault::NoArticle => by_table(4, 0),
@@ -68,8 +68,8 @@ impl TableFault {
             TableFault::Behind(place) => by_table(13, place),
             TableFault::Ahead(place) => by_table(14, place),
             TableFault::Short(needed) => by_table(15, needed),
-            TableFault::InReader(fault) => Refusal::from(fault),
-            TableFault::InHistory(fault) => Refusal::from(fault),
+            TableFault::InReader(fault) => fault.into(),
+            TableFault::InHistory(fault) => fault.into(),
         }
     }
 }

@@ -4,7 +4,6 @@
 
 mod answers;
 mod archives;
-mod calls;
 mod commits;
 mod emits;
 mod faults;

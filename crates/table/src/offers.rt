@@ -1,109 +1,115 @@
-ghost use Rattle.std.specs.Prelude.{◌≡◌, ◌+◌, ◌*◌, ◌<◌, ◌≤◌, map, length, IfOk, Ok as Granted, filter};
+ghost use Rattle.std.specs.Prelude.{◌≡◌, ◌+◌, ◌*◌, ◌<◌, ◌≤◌, map, length, filter};
 ghost use Rattle.std.specs.List.{range_with_len, flat_map};
 ghost use Rattle.action.specs.Bytes.{action_bytes};
 ghost use Rattle.message.specs.Buffer.{overwritten};
 ghost use Rattle.message.specs.Format.{interval_bytes};
-ghost use Rattle.table.specs.Offers.{Offered, is_offered, offer_interval};
-ghost use Rattle.table.specs.View.{view};
+ghost use Rattle.message.specs.Lawful.{LawfulMessage};
+ghost use Rattle.table.specs.Offers.{Offered, is_offered, offer_interval, offer_message};
+ghost use Rattle.table.specs.Sound.{Sound};
+ghost use Rattle.table.specs.View.{bare, held};
 
 use crate::emits::emit;
 use crate::faults::TableFault;
+use crate::state::State;
 use crate::tables::Table;
 use action::Action;
-use history::History;
+use history::{History, actions};
 use kind::Kind;
 use message::{Header, Interval, Record, SectionHead};
 
-impl<K: Kind, H: History> Table<K, H> {
-    // Does an offer to the peer carry this action?
-    fn is_offered(&self, peer: u8, article: u8, action: &Action) -> bool
-        requires { (peer < 8) × (article < 64) }
-        ensures { result ≡ is_offered (view H.items H.room self.now) peer article action.now }
+// What is asked for: the actions on an article that a peer is not known to have.
+#[derive(Clone, Copy)]
+struct Offer {
+    peer: u8,
+    article: u8,
+}
+
+impl Offer {
+    // What the offer says of a site.
+    fn interval(self, state: &State, site: u8) -> Interval
+        ensures { result ≡ offer_interval (bare state.now) self.peer self.article site }
     {
-        if action.article != article || action.coordinator >= self.state.setup.sites {
-            return false;
+        let ledger = &state.ledger;
+        Interval {
+            site,
+            from: ledger.entry(self.article, self.peer, site),
+            to: ledger.entry(self.article, ledger.setup.own, site),
         }
-        let known = &self.state.rows[article as usize].known;
-        let q = action.coordinator as usize;
-        known[peer as usize][q] < action.time
-            && action.time <= known[self.state.setup.own as usize][q]
     }
 
-    // How many actions an offer to the peer carries.
-    fn count_offered(&self, peer: u8, article: u8) -> Result<usize, TableFault>
-        requires { (peer < 8) × (article < 64) }
-        ensures value { result ≡ Granted (length (filter (is_offered (view H.items H.room self.now) peer article) (H.items self.now.history))) }
-        ensures few { IfOk result (λ n. n ≤ 1024) }
+    // Does the offer carry this action?
+    fn carries(self, state: &State, action: &Action) -> bool
+        ensures { result ≡ is_offered (bare state.now) self.peer self.article action.now }
     {
-        let mut carried = 0;
-        for i in 0..self.history.count() {
-            let action = self.history.read(i)?;
-            if self.is_offered(peer, article, &action) {
-                carried += 1;
-            }
+        if action.article != self.article || action.coordinator >= state.ledger.setup.sites {
+            return false;
         }
-        Ok(carried)
+        let interval = self.interval(state, action.coordinator);
+        interval.from < action.time && action.time <= interval.to
+    }
+
+    // How many actions the offer carries.
+    fn count<H: History>(self, state: &State, history: &H) -> usize
+        ensures value { result ≡ length (filter (is_offered (bare state.now) self.peer self.article) (H.items history.now)) }
+        ensures few { result ≤ length (H.items history.now) }
+    {
+        actions(history)
+            .filter(|action| self.carries(state, action))
+            .count()
     }
 
     // Puts the offer's intervals, one for each site.
-    fn put_intervals(&self, peer: u8, article: u8, buffer: &mut [u8], start: usize) -> usize
-        requires { (peer < 8) × ((article < 64) × (start + 10 * self.now.state.setup.sites ≤ length buffer.old)) }
-        ensures end { result ≡ start + 10 * self.now.state.setup.sites }
-        ensures bytes { buffer.new ≡ overwritten buffer.old start (flat_map interval_bytes (map (offer_interval (view H.items H.room self.now) peer article) (range_with_len 0 self.now.state.setup.sites))) }
+    fn put_intervals(self, state: &State, buffer: &mut [u8], start: usize) -> usize
+        requires { start + 10 * state.now.ledger.setup.sites ≤ length buffer.old }
+        ensures end { result ≡ start + 10 * state.now.ledger.setup.sites }
+        ensures bytes { buffer.new ≡ overwritten buffer.old start (flat_map interval_bytes (map (offer_interval (bare state.now) self.peer self.article) (range_with_len 0 state.now.ledger.setup.sites))) }
     {
-        let setup = self.state.setup;
         let mut at = start;
-        for q in 0..setup.sites {
-            let known = &self.state.rows[article as usize].known;
-            let interval = Interval {
-                site: q,
-                from: known[peer as usize][q as usize],
-                to: known[setup.own as usize][q as usize],
-            };
-            at = emit(buffer, at, Record::Interval(interval));
+        for q in 0..state.ledger.setup.sites {
+            at = emit(buffer, at, Record::Interval(self.interval(state, q)));
         }
         at
     }
 
     // Puts the actions that the offer carries.
-    fn put_offered(
-        &self,
-        peer: u8,
-        article: u8,
+    fn put_actions<H: History>(
+        self,
+        state: &State,
+        history: &H,
         buffer: &mut [u8],
         start: usize,
-    ) -> Result<usize, TableFault>
-        requires { (peer < 8) × ((article < 64) × (start + 16 * length (filter (is_offered (view H.items H.room self.now) peer article) (H.items self.now.history)) ≤ length buffer.old)) }
-        ensures end { result ≡ Granted (start + 16 * length (filter (is_offered (view H.items H.room self.now) peer article) (H.items self.now.history))) }
-        ensures bytes { buffer.new ≡ overwritten buffer.old start (flat_map action_bytes (filter (is_offered (view H.items H.room self.now) peer article) (H.items self.now.history))) }
+    ) -> usize
+        requires { start + 16 * length (filter (is_offered (bare state.now) self.peer self.article) (H.items history.now)) ≤ length buffer.old }
+        ensures end { result ≡ start + 16 * length (filter (is_offered (bare state.now) self.peer self.article) (H.items history.now)) }
+        ensures bytes { buffer.new ≡ overwritten buffer.old start (flat_map action_bytes (filter (is_offered (bare state.now) self.peer self.article) (H.items history.now))) }
     {
         let mut at = start;
-        for i in 0..self.history.count() {
-            let action = self.history.read(i)?;
-            if self.is_offered(peer, article, &action) {
+        for action in actions(history) {
+            if self.carries(state, &action) {
                 at = emit(buffer, at, Record::Action(action));
             }
         }
-        Ok(at)
+        at
     }
 
-    pub(crate) fn write_offer(
-        &self,
-        peer: u8,
-        article: u8,
+    // Writes the offer, and answers its length.
+    fn write<K: Kind, H: History>(
+        self,
+        state: &State,
+        history: &H,
         buffer: &mut [u8],
     ) -> Result<usize, TableFault>
-        ensures { Offered K.means (view H.items H.room self.now) peer article buffer.old result buffer.new }
+        ensures { Offered K.means (held state.now (H.items history.now) (H.room history.now)) self.peer self.article buffer.old result buffer.new }
     {
-        let setup = self.state.setup;
-        if article >= setup.articles {
+        let setup = state.ledger.setup;
+        if self.article >= setup.articles {
             return Err(TableFault::NoArticle);
         }
-        if peer >= setup.sites {
+        if self.peer >= setup.sites {
             return Err(TableFault::NoSite);
         }
-        let actions = self.count_offered(peer, article)?;
-        let needed = 11 + 10 * setup.sites as usize + 16 * actions;
+        let carried = self.count(state, history);
+        let needed = 11 + 10 * setup.sites as usize + 16 * carried;
         if needed > buffer.len() {
             return Err(TableFault::Short(needed));
         }
@@ -114,13 +120,26 @@ impl<K: Kind, H: History> Table<K, H> {
             sections: 1,
         };
         let head = SectionHead {
-            article,
+            article: self.article,
             intervals: setup.sites,
-            actions: actions as u16,
+            actions: carried as u16,
         };
         let at = emit(buffer, 0, Record::Header(header));
         let at = emit(buffer, at, Record::Section(head));
-        let at = self.put_intervals(peer, article, buffer, at);
-        self.put_offered(peer, article, buffer, at)
+        let at = self.put_intervals(state, buffer, at);
+        Ok(self.put_actions(state, history, buffer, at))
+    }
+}
+
+impl<K: Kind, H: History> Table<K, H> {
+    // Writes, for a peer and an article, all that the peer is not known to have: an interval for
+    // each site and the history's actions in them. Answers the length.
+    pub fn offer(&self, peer: u8, article: u8, buffer: &mut [u8]) -> Result<usize, TableFault>
+        ensures does { Offered K.means self.now peer article buffer.old result buffer.new }
+        ensures sound { Sound K.means self.now }
+        ensures lawful { article < self.now.setup.articles → LawfulMessage K.means self.now.setup (offer_message K.means self.now peer article) }
+    {
+        let offer = Offer { peer, article };
+        offer.write::<K, H>(&self.state, &self.history, buffer)
     }
 }

@@ -1,105 +1,117 @@
-ghost use Rattle.std.specs.Prelude.{◌≡◌, ◌+◌, ◌*◌, ◌<◌, ◌≤◌, map, length};
+// The open transaction's message: a section for each article written.
+ghost use Rattle.std.specs.Prelude.{◌≡◌, ◌+◌, ◌*◌, ◌<◌, ◌≤◌, length};
 ghost use Rattle.std.specs.List.{flat_map};
 ghost use Rattle.action.specs.Bytes.{action_bytes};
 ghost use Rattle.kind.specs.Working.{on};
 ghost use Rattle.message.specs.Buffer.{overwritten};
 ghost use Rattle.message.specs.Format.{format, section_format};
-ghost use Rattle.table.specs.Transactions.{latest, transaction_message, transaction_section, written_articles};
-ghost use Rattle.table.specs.View.{view};
+ghost use Rattle.table.specs.Transactions.{latest, sections_bytes, transaction_message, transaction_section, written_articles};
+ghost use Rattle.table.specs.View.{bare};
 
 use crate::emits::emit;
-use crate::tables::Table;
+use crate::state::{State, written_in};
 use action::Action;
-use history::History;
 use kind::Kind;
 use message::{Header, Interval, Record, SectionHead};
 
-// The open transaction's message: a section for each article written.
-impl<K: Kind, H: History> Table<K, H> {
-    // How many pending actions the article has, and the last time on it.
-    fn written(&self, article: u8) -> (usize, u32)
-        ensures count { result.0 ≡ length (on article (view H.items H.room self.now).pending) }
-        ensures few { result.0 ≤ 16 }
-        ensures last { result.1 ≡ latest article (view H.items H.room self.now).pending }
-    {
-        let mut count = 0;
-        let mut last: u32 = 0;
-        for i in 0..self.state.writes {
-            let action = self.state.pending[i];
-            if action.article == article {
-                count += 1;
-                last = last.max(action.time);
-            }
-        }
-        (count, last)
-    }
+// How many sections a message has, and its length.
+#[derive(Clone, Copy)]
+pub(crate) struct Size {
+    pub(crate) sections: usize,
+    pub(crate) length: usize,
+}
 
-    // Puts the pending actions on the article.
-    fn put_written(&self, article: u8, buffer: &mut [u8], start: usize) -> usize
-        requires { start + 16 * length (on article (view H.items H.room self.now).pending) ≤ length buffer.old }
-        ensures end { result ≡ start + 16 * length (on article (view H.items H.room self.now).pending) }
-        ensures bytes { buffer.new ≡ overwritten buffer.old start (flat_map action_bytes (on article (view H.items H.room self.now).pending)) }
-    {
-        let mut at = start;
-        for i in 0..self.state.writes {
-            let action = self.state.pending[i];
-            if action.article == article {
-                at = emit(buffer, at, Record::Action(action));
-            }
-        }
-        at
-    }
+// How many of the actions are on the article.
+fn count_on(actions: &[Action], article: u8) -> usize
+    ensures value { result ≡ length (on article actions.now) }
+    ensures few { result ≤ length actions.now }
+{
+    actions
+        .iter()
+        .filter(|action| action.article == article)
+        .count()
+}
 
+// The last time on the article, 0 where there is none.
+fn latest_on(actions: &[Action], article: u8) -> u32
+    ensures { result ≡ latest article actions.now }
+{
+    actions
+        .iter()
+        .filter(|action| action.article == article)
+        .fold(0, |last, action| last.max(action.time))
+}
+
+// Puts those of the actions that are on the article.
+fn put_on(actions: &[Action], article: u8, buffer: &mut [u8], start: usize) -> usize
+    requires { start + 16 * length (on article actions.now) ≤ length buffer.old }
+    ensures end { result ≡ start + 16 * length (on article actions.now) }
+    ensures bytes { buffer.new ≡ overwritten buffer.old start (flat_map action_bytes (on article actions.now)) }
+{
+    let mut at = start;
+    for action in actions {
+        if action.article == article {
+            at = emit(buffer, at, Record::Action(*action));
+        }
+    }
+    at
+}
+
+impl State {
     // Puts the section of an article that was written.
     fn put_section(&self, article: u8, buffer: &mut [u8], start: usize) -> usize
-        requires { (article < 64) × (start + length (section_format (transaction_section (view H.items H.room self.now) article)) ≤ length buffer.old) }
-        ensures end { result ≡ start + length (section_format (transaction_section (view H.items H.room self.now) article)) }
-        ensures bytes { buffer.new ≡ overwritten buffer.old start (section_format (transaction_section (view H.items H.room self.now) article)) }
+        requires { start + length (section_format (transaction_section (bare self.now) article)) ≤ length buffer.old }
+        ensures end { result ≡ start + length (section_format (transaction_section (bare self.now) article)) }
+        ensures bytes { buffer.new ≡ overwritten buffer.old start (section_format (transaction_section (bare self.now) article)) }
     {
-        let (count, last) = self.written(article);
-        let own = self.state.setup.own;
-        let before = self.state.rows[article as usize].known[own as usize][own as usize];
+        let pending = written_in(&self.transaction);
+        let own = self.ledger.setup.own;
+        let before = self.ledger.entry(article, own, own);
         let head = SectionHead {
             article,
             intervals: 1,
-            actions: count as u16,
+            actions: count_on(pending, article) as u16,
         };
         let interval = Interval {
             site: own,
             from: before,
-            to: before.max(last),
+            to: before.max(latest_on(pending, article)),
         };
         let at = emit(buffer, start, Record::Section(head));
         let at = emit(buffer, at, Record::Interval(interval));
-        self.put_written(article, buffer, at)
+        put_on(pending, article, buffer, at)
     }
 
     // How many sections the message has, and its length.
-    pub(crate) fn measure(&self) -> (usize, usize)
-        ensures sections { result.0 ≡ length (written_articles (view H.items H.room self.now)) }
-        ensures few { result.0 ≤ 64 }
-        ensures bytes { result.1 ≡ length (format (transaction_message K.means (view H.items H.room self.now))) }
+    pub(crate) fn measure<K: Kind>(&self) -> Size
+        ensures sections { result.sections ≡ length (written_articles (bare self.now)) }
+        ensures few { result.sections ≤ 64 }
+        ensures bytes { result.length ≡ length (format (transaction_message K.means (bare self.now))) }
     {
-        let mut sections = 0;
-        let mut length = 6;
-        for article in 0..self.state.setup.articles {
-            let (count, _) = self.written(article);
+        let pending = written_in(&self.transaction);
+        let mut size = Size {
+            sections: 0,
+            length: 6,
+        };
+        for article in 0..self.ledger.setup.articles {
+            let count = count_on(pending, article);
             if count > 0 {
-                sections += 1;
-                length += 15 + 16 * count;
+                size.sections += 1;
+                size.length += 15 + 16 * count;
             }
         }
-        (sections, length)
+        size
     }
 
     // Puts the sections, in the order of their articles.
     fn put_sections(&self, buffer: &mut [u8], start: usize)
-        requires { start + length (flat_map section_format (map (transaction_section (view H.items H.room self.now)) (written_articles (view H.items H.room self.now)))) ≤ length buffer.old }
-        ensures { buffer.new ≡ overwritten buffer.old start (flat_map section_format (map (transaction_section (view H.items H.room self.now)) (written_articles (view H.items H.room self.now)))) }
+        requires { start + length (sections_bytes (bare self.now)) ≤ length buffer.old }
+        ensures { buffer.new ≡ overwritten buffer.old start (sections_bytes (bare self.now)) }
     {
+        let pending = written_in(&self.transaction);
         let mut at = start;
-        for article in 0..self.state.setup.articles {
-            let (count, _) = self.written(article);
+        for article in 0..self.ledger.setup.articles {
+            let count = count_on(pending, article);
             if count > 0 {
                 at = self.put_section(article, buffer, at);
             }
@@ -107,11 +119,12 @@ impl<K: Kind, H: History> Table<K, H> {
     }
 
     // Puts the message, of so many sections.
-    pub(crate) fn put_transaction(&self, sections: usize, buffer: &mut [u8])
-        requires { (sections ≡ length (written_articles (view H.items H.room self.now))) × ((sections ≤ 64) × (length (format (transaction_message K.means (view H.items H.room self.now))) ≤ length buffer.old)) }
-        ensures { buffer.new ≡ overwritten buffer.old 0 (format (transaction_message K.means (view H.items H.room self.now))) }
+    pub(crate) fn put_transaction<K: Kind>(&self, sections: usize, buffer: &mut [u8])
+        requires sections { (sections ≡ length (written_articles (bare self.now))) × (sections ≤ 64) }
+        requires room { length (format (transaction_message K.means (bare self.now))) ≤ length buffer.old }
+        ensures { buffer.new ≡ overwritten buffer.old 0 (format (transaction_message K.means (bare self.now))) }
     {
-        let setup = self.state.setup;
+        let setup = self.ledger.setup;
         let header = Header {
             group: setup.group,
             kind: K::number(),

@@ -1,21 +1,44 @@
-ghost use Rattle.std.specs.Prelude.{◌≡◌, ◌+◌, ◌≤◌, false, length};
+ghost use Rattle.std.specs.Prelude.{◌≡◌, ◌≤◌, length};
+ghost use Rattle.table.specs.Transactions.{holds};
+ghost use Rattle.table.specs.View.{bare, written_in};
 
-use action::{Action, Setup};
-use row::Row;
+use crate::tickets::Ticket;
+use action::{Action, MOST_WRITES};
+use arrayvec::ArrayVec;
+use kind::Kind;
+use row::Ledger;
+
+// What an open transaction has written so far.
+pub(crate) type Pending = ArrayVec<Action, MOST_WRITES>;
 
 // What a table keeps besides its history.
 #[derive(Drop)]
 pub struct State {
-    pub setup: Setup,
+    pub ledger: Ledger,
     pub clock: u32,
-    pub is_open: bool,
-    // How many of `pending` the open transaction has written.
-    pub writes: usize,
-    pub pending: [Action; 16],
-    pub rows: [Row; 64],
-    ghost sixteen: { length pending ≡ 16 },
-    ghost each_article: { length rows ≡ 64 },
-    ghost few: { writes ≤ 16 },
-    ghost in_time: { clock + writes ≤ 4000000000 },
-    ghost closed: { (is_open ≡ false → writes ≡ 0) },
+    pub transaction: Option<Pending>,
+}
+
+// What the transaction has written, nothing where none is open.
+pub(crate) fn written_in(transaction: &Option<Pending>) -> &[Action]
+    ensures value { result.now ≡ written_in transaction.now }
+    ensures few { length result.now ≤ 16 }
+{
+    match transaction {
+        Some(pending) => pending.as_slice(),
+        None => &[],
+    }
+}
+
+impl State {
+    // Is this the ticket of the open transaction?
+    pub(crate) fn holds<K: Kind>(&self, ticket: &Ticket) -> bool
+        ensures { result ≡ holds K.means (bare self.now) ticket.now }
+    {
+        self.transaction.is_some()
+            && ticket.group == self.ledger.setup.group
+            && ticket.kind == K::number()
+            && ticket.site == self.ledger.setup.own
+            && ticket.clock == self.clock
+    }
 }

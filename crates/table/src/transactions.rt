@@ -1,8 +1,10 @@
+// A transaction up to its commit: opening it, writing to it, and dropping it.
 ghost use Rattle.std.specs.Prelude.{◌≡◌};
-ghost use Rattle.table.specs.Transactions.{Abandoned, Opened, Wrote, holds};
-ghost use Rattle.table.specs.View.{view};
+ghost use Rattle.table.specs.Sound.{Sound};
+ghost use Rattle.table.specs.Transactions.{Abandoned, Opened, Wrote};
 
 use crate::faults::TableFault;
+use crate::state::{Pending, written_in};
 use crate::tables::Table;
 use crate::tickets::Ticket;
 use action::{Action, LATEST_TIME, MOST_WRITES};
@@ -10,79 +12,76 @@ use history::History;
 use kind::Kind;
 
 impl<K: Kind, H: History> Table<K, H> {
-    pub(crate) fn begin(&mut self) -> Result<Ticket, TableFault>
-        ensures { Opened K.means (view H.items H.room self.old) result (view H.items H.room self.new) }
+    // Opens a transaction and hands out its ticket.
+    pub fn open(&mut self) -> Result<Ticket, TableFault>
+        ensures does { Opened K.means self.old result self.new }
+        ensures sound { Sound K.means self.new }
     {
-        if self.state.is_open {
+        if self.state.transaction.is_some() {
             return Err(TableFault::AlreadyOpen);
         }
-        self.state.is_open = true;
+        self.state.transaction = Some(Pending::new());
         Ok(Ticket {
-            group: self.state.setup.group,
+            group: self.state.ledger.setup.group,
             kind: K::number(),
-            site: self.state.setup.own,
+            site: self.state.ledger.setup.own,
             clock: self.state.clock,
         })
     }
 
-    // Is this the ticket of the open transaction?
-    pub(crate) fn holds(&self, ticket: &Ticket) -> bool
-        ensures { result ≡ holds K.means (view H.items H.room self.now) ticket.now }
-    {
-        self.state.is_open
-            && ticket.group == self.state.setup.group
-            && ticket.kind == K::number()
-            && ticket.site == self.state.setup.own
-            && ticket.clock == self.state.clock
-    }
-
-    pub(crate) fn add(
+    // Adds a pending action, and answers the time that it will have.
+    pub fn write(
         &mut self,
         ticket: &Ticket,
         article: u8,
         operation: u8,
         amount: i32,
     ) -> Result<u32, TableFault>
-        ensures { Wrote K.means (view H.items H.room self.old) ticket.now article operation amount result (view H.items H.room self.new) }
+        ensures does { Wrote K.means self.old ticket.now article operation amount result self.new }
+        ensures sound { Sound K.means self.new }
     {
-        if !self.holds(ticket) {
+        if !self.state.holds::<K>(ticket) {
             return Err(TableFault::NotItsTicket);
         }
-        if article >= self.state.setup.articles {
+        if article >= self.state.ledger.setup.articles {
             return Err(TableFault::NoArticle);
         }
         if !K::is_known(operation, amount) {
             return Err(TableFault::UnknownPair);
         }
-        let at = self.state.writes;
-        if at >= MOST_WRITES {
+        let writes = written_in(&self.state.transaction).len();
+        if writes >= MOST_WRITES {
             return Err(TableFault::TooManyWrites);
         }
-        let before = self.state.clock + at as u32;
+        let before = self.state.clock + writes as u32;
         if before >= LATEST_TIME {
             return Err(TableFault::TooLate);
         }
-        self.state.pending[at] = Action {
-            coordinator: self.state.setup.own,
+        let action = Action {
+            coordinator: self.state.ledger.setup.own,
             time: before + 1,
             transaction: self.state.clock + 1,
             article,
             operation,
             amount,
         };
-        self.state.writes = at + 1;
+        match &mut self.state.transaction {
+            Some(pending) => pending.push(action),
+            None => unreachable(),
+        }
         Ok(before + 1)
     }
 
-    pub(crate) fn cancel(&mut self, ticket: Ticket) -> Result<(), (TableFault, Ticket)>
-        ensures { Abandoned K.means (view H.items H.room self.old) ticket result (view H.items H.room self.new) }
+    // Drops the pending actions and spends the ticket; the clock stays.
+    pub fn abandon(&mut self, ticket: Ticket) -> Result<(), (TableFault, Ticket)>
+        ensures does { Abandoned K.means self.old ticket result self.new }
+        ensures sound { Sound K.means self.new }
     {
-        if !self.holds(&ticket) {
+        if !self.state.holds::<K>(&ticket) {
             return Err((TableFault::NotItsTicket, ticket));
         }
         ticket.spend();
-        self.state.writes = 0;
-        self.state.is_open = false;
+        self.state.transaction = None;
         Ok(())
     }
 }

@@ -1,13 +1,12 @@
-use Rattle.std.proofs.Common.{◌≡◌, ◌-◌, length}
+use Rattle.std.proofs.Common.{◌≡◌, filter}
+use Rattle.history.specs.Walks.{left}
+use Rattle.kind.specs.Working.{working}
 use Rattle.row.specs.Passes.{is_up_to}
-use Rattle.row.proofs.Sifting.{Sifting}
 use Rattle.row.proofs.archives.move_actions.Given as goal
 
-abbrev pub invariant-loop-i : goal.invariant-loop-i
-invariant-loop-i g l =
+-- what is left leads the base to where the whole leads
+abbrev pub invariant-loop-action : goal.invariant-loop-action
+invariant-loop-action g l =
+    let gone = filter (is_up_to l.article l.time) in
     let items = g.H.History.items in
-    let room = g.H.History.room in
-    Sifting g.K.Kind.means.steps (is_up_to l.article l.time) (items l.initial.history) l.initial.base (items l.history) l.i l.base l.gone × (room l.history ≡ room l.initial.history)
-
-abbrev pub decreases-loop-i : goal.decreases-loop-i
-decreases-loop-i g l = length (g.H.History.items l.history) - l.i
+    working g.K.Kind.means.steps l.base (gone (left items l.action-iterator)) ≡ working g.K.Kind.means.steps l.initial.base (gone (items l.fn.history))

@@ -1,9 +1,12 @@
-use Rattle.table.proofs.Archived.{archive_keeps}
+use Rattle.std.proofs.Common.{sym, subst}
+use Rattle.table.specs.Sound.{Sound}
+use Rattle.table.proofs.Archived.{archived_sound}
 use Rattle.table.proofs.tables.Table.archive.Goals as goal
 
-pub returns : goal.returns
-returns g c =
-    record {
-      does = c.archive_article.ensures;
-      sound = λ s. archive_keeps g.K.Kind.means g.met.K.Kind.step_fits _ _ s c.args.article c.archive_article.result c.archive_article.ensures;
-    }
+pub invariant_of-self : goal.invariant_of-self
+invariant_of-self g c =
+    subst (Sound g.K.Kind.means) (sym c.settle.ensures.after) (archived_sound g.K.Kind.means g.met.K.Kind.step_fits _ c.args.article c.self.invariant)
+
+pub returns-clause-sound : goal.returns-clause-sound
+returns-clause-sound g c =
+    subst (Sound g.K.Kind.means) (sym c.settle.ensures.after) (archived_sound g.K.Kind.means g.met.K.Kind.step_fits _ c.args.article c.self.invariant)

@@ -1,13 +1,19 @@
-use Rattle.std.proofs.Common.{arith}
-use Rattle.std.proofs.lemmas.List.{length-take-le}
+use Rattle.std.proofs.Common.{◌<◌, length, subst}
+use Rattle.message.specs.Lawful.{LawfulMessage}
+use Rattle.table.specs.Transactions.{transaction_message}
+use Rattle.table.specs.View.{View}
 use Rattle.table.proofs.Lawfulness.{transaction_lawful}
 use Rattle.table.proofs.Soundness.{commit_keeps}
 use Rattle.table.proofs.tables.Table.commit.Goals as goal
 
-pub returns : goal.returns
-returns g c =
-    record {
-      does = c.finish.ensures;
-      sound = λ s. commit_keeps g.K.Kind.means _ _ s c.args.ticket c.args.buffer.now c.finish.new.buffer c.finish.result c.finish.ensures;
-      lawful = λ s lt. transaction_lawful g.K.Kind.means _ s (omega (arith, length-take-le c.args.self.now.state.writes c.args.self.now.state.pending (omega arith)));
-    }
+pub invariant_of-self : goal.invariant_of-self
+invariant_of-self g c =
+    commit_keeps g.K.Kind.means _ _ c.self.invariant c.args.ticket c.args.buffer.now c.finish.new.buffer c.finish.result c.finish.ensures
+
+pub returns-clause-sound : goal.returns-clause-sound
+returns-clause-sound g c =
+    commit_keeps g.K.Kind.means _ _ c.self.invariant c.args.ticket c.args.buffer.now c.finish.new.buffer c.finish.result c.finish.ensures
+
+pub returns-clause-lawful : goal.returns-clause-lawful
+returns-clause-lawful g c =
+    subst (λ (v : View). 0 < length v.pending → LawfulMessage g.K.Kind.means v.setup (transaction_message g.K.Kind.means v)) c.self.view_is (transaction_lawful g.K.Kind.means _ c.self.invariant)

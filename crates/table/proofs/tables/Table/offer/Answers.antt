@@ -1,9 +1,9 @@
+use Rattle.std.proofs.Common.{◌<◌, subst}
+use Rattle.message.specs.Lawful.{LawfulMessage}
+use Rattle.table.specs.Offers.{offer_message}
 use Rattle.table.proofs.Lawfulness.{offer_lawful}
 use Rattle.table.proofs.tables.Table.offer.Goals as goal
 
-pub returns : goal.returns
-returns g c =
-    record {
-      does = c.write_offer.ensures;
-      lawful = λ s listed. offer_lawful g.K.Kind.means _ s c.args.peer c.args.article listed;
-    }
+pub returns-clause-lawful : goal.returns-clause-lawful
+returns-clause-lawful g c =
+    subst (λ v. c.args.article < v.setup.articles → LawfulMessage g.K.Kind.means v.setup (offer_message g.K.Kind.means v c.args.peer c.args.article)) c.self.view_is (offer_lawful g.K.Kind.means _ c.self.invariant c.args.peer c.args.article)

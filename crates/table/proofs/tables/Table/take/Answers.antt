@@ -1,9 +1,10 @@
 use Rattle.table.proofs.Taken.{take_keeps}
 use Rattle.table.proofs.tables.Table.take.Goals as goal
 
-pub returns : goal.returns
-returns g c =
-    record {
-      does = c.take_message.ensures;
-      sound = λ s. take_keeps g.K.Kind.means g.met.K.Kind.step_fits g.met.K.Kind.commute _ _ s c.args.bytes.now c.take_message.result c.take_message.ensures;
-    }
+pub invariant_of-self : goal.invariant_of-self
+invariant_of-self g c =
+    take_keeps g.K.Kind.means g.met.K.Kind.step_fits g.met.K.Kind.commute _ _ c.self.invariant c.args.bytes.now c.take_message.result c.take_message.ensures
+
+pub returns-clause-sound : goal.returns-clause-sound
+returns-clause-sound g c =
+    take_keeps g.K.Kind.means g.met.K.Kind.step_fits g.met.K.Kind.commute _ _ c.self.invariant c.args.bytes.now c.take_message.result c.take_message.ensures
