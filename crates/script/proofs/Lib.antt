@@ -1,5 +1,4 @@
 mod Forms
 mod Held
 mod Lined
-mod Numbers
 mod Turns

@@ -1,35 +1,26 @@
-ghost use Rattle.std.specs.Prelude.{◌≡◌, ◌≤◌, IfSome};
-ghost use Rattle.script.specs.Lines.{Digit, Hundreds, Placed, Sign, Site, command, figure_of, move_of, offer_of, open_item_of};
+ghost use Rattle.std.specs.Prelude.{◌≡◌, ◌<◌, ◌≤◌, IfSome};
+ghost use Rattle.script.specs.Lines.{DigitBelow, Hundreds, Placed, Sign, command, figure_of, move_of, offer_of, open_item_of};
 
 use crate::commands::Command;
 
-// The value of a decimal digit.
-fn digit(byte: u8) -> Option<u8>
-    ensures { Digit byte result }
-{
-    match byte {
-        b'0'..=b'9' => Some(byte - b'0'),
-        _ => None,
-    }
-}
+// How many sites can act: those of the desk.
+const SITES: u8 = 3;
 
-// The acting site: only the three of the desk can act.
-fn acting(byte: u8) -> Option<u8>
-    ensures { Site byte result }
+// The value of a decimal digit that is below a bound.
+fn digit_below(bound: u8, byte: u8) -> Option<u8>
+    ensures { DigitBelow bound byte result }
 {
-    match byte {
-        b'0'..=b'2' => Some(byte - b'0'),
-        _ => None,
-    }
+    let value = byte.checked_sub(b'0')?;
+    (value < bound).then_some(value)
 }
 
 // The number that three digits write.
 fn three_digits(high: u8, middle: u8, low: u8) -> Option<u32>
     ensures { Hundreds high middle low result }
 {
-    let hundreds = digit(high)?;
-    let tens = digit(middle)?;
-    let ones = digit(low)?;
+    let hundreds = digit_below(10, high)?;
+    let tens = digit_below(10, middle)?;
+    let ones = digit_below(10, low)?;
     Some(100 * u32::from(hundreds) + 10 * u32::from(tens) + u32::from(ones))
 }
 
@@ -52,15 +43,15 @@ fn parse_move(body: &[u8]) -> Option<Command>
     let [site, article, sign, d5, d4, d3, d2, d1, d0, slot] = body else {
         return None;
     };
-    let site = acting(*site)?;
-    let article = digit(*article)?;
+    let site = digit_below(SITES, *site)?;
+    let article = digit_below(10, *article)?;
     let thousands = three_digits(*d5, *d4, *d3)?;
     let number = 1000 * thousands + three_digits(*d2, *d1, *d0)?;
     Some(Command::Move {
         site,
         article,
         amount: signed(*sign, number)?,
-        slot: digit(*slot)?,
+        slot: digit_below(10, *slot)?,
     })
 }
 
@@ -72,10 +63,10 @@ fn parse_offer(body: &[u8]) -> Option<Command>
         return None;
     };
     Some(Command::Offer {
-        site: acting(*site)?,
-        peer: digit(*peer)?,
-        article: digit(*article)?,
-        slot: digit(*slot)?,
+        site: digit_below(SITES, *site)?,
+        peer: digit_below(10, *peer)?,
+        article: digit_below(10, *article)?,
+        slot: digit_below(10, *slot)?,
     })
 }
 
@@ -87,8 +78,8 @@ fn parse_figure(body: &[u8]) -> Option<Command>
         return None;
     };
     Some(Command::Figure {
-        site: acting(*site)?,
-        article: digit(*article)?,
+        site: digit_below(SITES, *site)?,
+        article: digit_below(10, *article)?,
     })
 }
 
@@ -100,9 +91,9 @@ fn parse_open_item(body: &[u8]) -> Option<Command>
         return None;
     };
     Some(Command::OpenItem {
-        site: acting(*site)?,
-        peer: digit(*peer)?,
-        article: digit(*article)?,
+        site: digit_below(SITES, *site)?,
+        peer: digit_below(10, *peer)?,
+        article: digit_below(10, *article)?,
     })
 }
 
