@@ -1,4 +1,3 @@
-mod Forms
 mod Held
 mod Lined
 mod Turns

@@ -49,6 +49,7 @@ fn act_at<H: History>(
 }
 
 impl Desk {
+    #[tactic(auto, using(crate::proofs::Turns::acted_by))]
     fn act(&mut self, command: Command) -> Result<Answer, LineFault>
         requires { Placed command }
         ensures { Acted (desk_view self.old) command result (desk_view self.new) }

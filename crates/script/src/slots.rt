@@ -8,7 +8,7 @@ pub(crate) const SLOT_BYTES: usize = 1200;
 // A place for one message. It holds nothing at first.
 #[derive(Default, Drop)]
 pub struct Slot {
-    pub(crate) message: ArrayVec<u8, SLOT_BYTES>,
+    message: ArrayVec<u8, SLOT_BYTES>,
 }
 
 impl Slot {
