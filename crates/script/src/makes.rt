@@ -23,6 +23,7 @@ fn setup(site: u32) -> Setup
 
 impl Desk {
     // A desk of three sites on which nothing has moved yet, and ten empty slots.
+    #[tactic(auto, using(crate::proofs::Held::all_empty))]
     pub fn new(heap: Global) -> Result<Desk, AllocError>
         ensures { IfOk result (λ desk. FreshDesk (desk_view desk)) }
     {

@@ -6,7 +6,7 @@ use arrayvec::ArrayVec;
 pub(crate) const SLOT_BYTES: usize = 1200;
 
 // A place for one message. It holds nothing at first.
-#[derive(Default, Drop)]
+#[derive(Clone, Default, Drop)]
 pub struct Slot {
     message: ArrayVec<u8, SLOT_BYTES>,
 }

@@ -1,8 +1,7 @@
-use Rattle.std.proofs.Common.{◌≡◌, [], ◌∷◌, ◌++◌, map, sym, refl, ap, ◌∙◌, subst}
+use Rattle.std.proofs.Common.{◌≡◌, [], ◌∷◌, ◌++◌, map, sym, refl, ap, ◌∙◌}
 use Rattle.std.proofs.lemmas.List.{append_assoc, append-nil, map-append}
-use Rattle.std.proofs.lemmas.Result.{err_from_is_err_and}
 use Rattle.script.specs.Desk.{desk_view, ran}
-use Rattle.script.specs.Scripts.{Scripted, lines, ran_all, script}
+use Rattle.script.specs.Scripts.{lines, ran_all}
 use Rattle.script.proofs.Lined.{cut, printed_more, ran_more}
 use Rattle.script.proofs.scripts.run_script.Goals as goal
 
@@ -28,28 +27,3 @@ loop-line-preserved c =
       desk = c.run-sheet.ensures.desk ∙ ap (λ d. (ran d line).desk) inv.desk ∙ sym (ran_more start done line) ∙ ap (λ ls. (ran_all start ls).desk) (sym more);
       printed = c.in_ok-extend_from_slice.ensures.items ∙ (λ i. inv.printed i ++ sheet i) ∙ append_assoc out before.bytes (ran before.desk line).bytes ∙ ap (λ bs. out ++ bs) (sym (printed_more start done line)) ∙ ap (λ ls. out ++ (ran_all start ls).bytes) (sym more);
     }
-
-pub returns-in_err-extend_from_slice : goal.returns-in_err-extend_from_slice
-returns-in_err-extend_from_slice c =
-    let start = desk_view c.args.desk.now in
-    let out = c.args.out.now.items in
-    let line = c.in-Some.line.now in
-    let inv = c.loop-line.invariant in
-    let done = map (λ b. b.now) c.loop-line.yielded in
-    let fault = err_from_is_err_and c.from_residual.result c.from_residual.ensures.1 in
-    subst (λ r. Scripted start c.args.input.now out r (desk_view c.run-sheet.new.self) c.extend_from_slice.new.self.items) (sym fault.1) (
-      done,
-      line,
-      lines c.next.new.self.text.now,
-      inv.whole ∙ ap (λ ls. done ++ ls) c.in-Some.ensures.steps,
-      c.run-sheet.ensures.desk ∙ ap (λ d. (ran d line).desk) inv.desk ∙ sym (ran_more start done line),
-      c.in_err-extend_from_slice.ensures.items ∙ inv.printed,
-    )
-
-pub returns : goal.returns
-returns c =
-    let start = desk_view c.args.desk.now in
-    let inv = c.loop-line.invariant in
-    let done = map (λ b. b.now) c.loop-line.yielded in
-    let all : done ≡ script c.args.input.now = sym (inv.whole ∙ ap (λ ls. done ++ ls) c.in-None.ensures.steps.0 ∙ append-nil done) in
-    (inv.desk ∙ ap (λ ls. (ran_all start ls).desk) all, inv.printed ∙ ap (λ ls. c.args.out.now.items ++ (ran_all start ls).bytes) all)
