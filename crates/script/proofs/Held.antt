@@ -1,4 +1,4 @@
--- What goes into a slot of 1,200 bytes, whatever they are.
+-- What goes into a slot.
 use Rattle.std.proofs.Common.{◌≡◌, ℕ, zero, suc, ◌+◌, ◌<◌, List, [], ◌∷◌, map, length, get_or, take, drop, replicate, ℤ, Some, None, Ok, sym, refl, ap, ◌∙◌, arith}
 use Rattle.std.proofs.lemmas.List.{take_at}
 use Rattle.action.specs.declared.refusals.Refusal.{Refusal}
@@ -13,6 +13,7 @@ use Rattle.script.specs.declared.slots.Slot.{Slot}
 use Rattle.script.specs.Acts.{Outcome, decided, moved_opened, moved_written, moved, offered, refused_at}
 use Rattle.script.specs.Slots.{blank, held}
 
+-- what a call is given
 pub blank_is : replicate 1200 0 ≡ blank
 unfolding blank
 blank_is = refl

@@ -6,7 +6,6 @@ use Rattle.script.specs.declared.slots.Slot.{Slot}
 abbrev pub held : Slot → List ℕ
 held s = s.message.items
 
--- the 1,200 bytes of a slot in which nothing is written. What a call puts into a slot depends on how many
--- there are, and not on what they are
+-- the 1,200 bytes that a call of the table is given to write a message into
 unfoldable pub blank : List ℕ
 blank = replicate 1200 0

@@ -28,6 +28,7 @@ impl SheetLine {
         SheetLine { text }
     }
 
+    // What is printed.
     pub fn as_slice(&self) -> &[u8]
         ensures { result.now ≡ sheet_bytes self.now }
     {

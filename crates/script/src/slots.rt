@@ -5,7 +5,7 @@ use arrayvec::ArrayVec;
 // The most bytes that a message in a slot has.
 pub(crate) const SLOT_BYTES: usize = 1200;
 
-// A place for one message. It holds nothing at first.
+// A place for one message. A new one holds nothing.
 #[derive(Clone, Default, Drop)]
 pub struct Slot {
     message: ArrayVec<u8, SLOT_BYTES>,
