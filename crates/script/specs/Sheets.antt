@@ -5,7 +5,7 @@ use Rattle.script.specs.declared.answers.Answer.TheVariants.{Number, Figure}
 use Rattle.script.specs.declared.sheets.SheetLine.{SheetLine}
 use Rattle.script.specs.Acts.{Reply}
 
--- what is written of it so far
+-- the bytes of a printed line
 abbrev pub sheet_bytes : SheetLine → List ℕ
 sheet_bytes s = s.text.bytes
 
