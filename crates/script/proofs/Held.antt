@@ -1,8 +1,7 @@
--- What goes into a slot of 1,200 bytes, whatever they are.
-use Rattle.std.proofs.Common.{◌≡◌, ℕ, ◌+◌, cond, ltb, leb, List, [], length, take, drop, ℤ, Some, None, Ok, sym, ap, ◌∙◌}
-use Rattle.std.proofs.lemmas.List.{length-replicate, take_at}
+-- What goes into a slot.
+use Rattle.std.proofs.Common.{◌≡◌, ℕ, zero, suc, ◌+◌, ◌<◌, List, [], ◌∷◌, map, length, get_or, take, drop, replicate, ℤ, Some, None, Ok, sym, refl, ap, ◌∙◌, arith}
+use Rattle.std.proofs.lemmas.List.{take_at}
 use Rattle.action.specs.declared.refusals.Refusal.{Refusal}
-use Rattle.action.specs.Lawful.{by_table, unless}
 use Rattle.kind.specs.Meanings.{on_hand}
 use Rattle.message.specs.Buffer.{overwritten}
 use Rattle.table.specs.Offers.{offer_bytes, offer_refusal}
@@ -10,38 +9,39 @@ use Rattle.table.specs.declared.tickets.Ticket.{Ticket}
 use Rattle.table.specs.Transactions.{Committed, Opened, Wrote, abandoned, commit_refusal, committed, fitting, new_action, next_time, opened, transaction_bytes, write_refusal, written}
 use Rattle.table.specs.View.{View}
 use Rattle.script.specs.declared.answers.Answer.TheVariants.{Number}
+use Rattle.script.specs.declared.slots.Slot.{Slot}
 use Rattle.script.specs.Acts.{Outcome, decided, moved_opened, moved_written, moved, offered, refused_at}
-use Rattle.script.specs.Slots.{blank}
+use Rattle.script.specs.Slots.{blank, held}
 
-length_blank : length blank ≡ 1200
+-- what a call is given
+pub blank_is : replicate 1200 0 ≡ blank
 unfolding blank
-length_blank = length-replicate {A = ℕ} 1200 0
+blank_is = refl
 
 pub held_written : (buffer bytes : List ℕ) (n : ℕ) → n ≡ length bytes → take n (overwritten buffer 0 bytes) ≡ bytes
 held_written buffer bytes n e = take_at bytes (drop (0 + length bytes) buffer) n (sym e)
 
-pub fitting_blank : (bytes buffer : List ℕ) → length buffer ≡ 1200 → fitting bytes buffer ≡ fitting bytes blank
-fitting_blank bytes buffer e = ap (λ n. cond (leb (length bytes) n) bytes []) (e ∙ sym length_blank)
-
-pub refusal_blank : (v : View) (p a : ℕ) (buffer : List ℕ) → length buffer ≡ 1200 → offer_refusal on_hand v p a buffer ≡ offer_refusal on_hand v p a blank
-refusal_blank v p a buffer e =
-    let long = length (offer_bytes on_hand v p a) in
-    ap (λ n. unless (ltb a v.setup.articles) (by_table 4 0) (unless (ltb p v.setup.sites) (by_table 5 0) (unless (leb long n) (by_table 15 long) None))) (e ∙ sym length_blank)
+-- slots that hold nothing
+pub all_empty : (slots : List Slot) (n : ℕ) → length slots ≡ n → ((i : ℕ) (none : Slot) → i < n → held (get_or slots i none) ≡ []) → map held slots ≡ replicate n []
+all_empty [] zero long empty = refl
+all_empty [] (suc n) long empty = absurd (omega (arith, long))
+all_empty (slot ∷ slots) zero long empty = absurd (omega (arith, long))
+all_empty (slot ∷ slots) (suc n) long empty = λ i. empty 0 slot (omega arith) i ∷ all_empty slots n (omega (arith, long)) (λ k none h. empty (suc k) none (omega arith)) i
 
 -- the offer is granted, or refused
-pub offer_granted : (v : View) (p a : ℕ) (slot : List ℕ) → offer_refusal on_hand v p a blank ≡ None → record { table = v; slot = offer_bytes on_hand v p a; answer = Number (length (offer_bytes on_hand v p a)) } ≡ offered v p a slot
-offer_granted v p a slot e = sym (ap (λ o. decided o (refused_at v slot) (record { table = v; slot = offer_bytes on_hand v p a; answer = Number (length (offer_bytes on_hand v p a)) })) e)
+pub offer_granted : (v : View) (p a : ℕ) (slot : List ℕ) → offer_refusal on_hand v p a blank ≡ None → record { table = v; slot = offer_bytes on_hand v p a; answer = Ok (Number (length (offer_bytes on_hand v p a))) } ≡ offered v p a slot
+offer_granted v p a slot e = sym (ap (λ o. decided o (refused_at v slot) (record { table = v; slot = offer_bytes on_hand v p a; answer = Ok (Number (length (offer_bytes on_hand v p a))) })) e)
 
 pub offer_refused : (v : View) (p a : ℕ) (slot : List ℕ) (r : Refusal) → offer_refusal on_hand v p a blank ≡ Some r → refused_at v slot r ≡ offered v p a slot
-offer_refused v p a slot r e = sym (ap (λ o. decided o (refused_at v slot) (record { table = v; slot = offer_bytes on_hand v p a; answer = Number (length (offer_bytes on_hand v p a)) })) e)
+offer_refused v p a slot r e = sym (ap (λ o. decided o (refused_at v slot) (record { table = v; slot = offer_bytes on_hand v p a; answer = Ok (Number (length (offer_bytes on_hand v p a))) })) e)
 
 -- a transaction of one write went through
-pub move_granted : (v w u after : View) (t : Ticket) (article : ℕ) (amount : ℤ) (time k n : ℕ) (slot buffer end : List ℕ) → Opened on_hand v (Ok t) w → Wrote on_hand w t article 1 amount (Ok time) u → length buffer ≡ 1200 → Committed on_hand u t buffer (Ok (k, n)) after end → record { table = after; slot = take n end; answer = Number time } ≡ moved v article amount slot
-move_granted v w u after t article amount time k n slot buffer end first second long third =
-    let message = transaction_bytes on_hand u in
-    let done : Outcome = record { table = committed on_hand u; slot = fitting message blank; answer = Number time } in
-    let left : record { table = after; slot = take n end; answer = Number time } ≡ done =
-    (λ i. record { table = third.3 i; slot = (ap (take n) third.4 ∙ held_written buffer (fitting message buffer) n third.2 ∙ fitting_blank message buffer long) i; answer = Number time })
+pub move_granted : (v w u after : View) (t : Ticket) (article : ℕ) (amount : ℤ) (time k n : ℕ) (slot end : List ℕ) → Opened on_hand v (Ok t) w → Wrote on_hand w t article 1 amount (Ok time) u → Committed on_hand u t blank (Ok (k, n)) after end → record { table = after; slot = take n end; answer = Ok (Number time) } ≡ moved v article amount slot
+move_granted v w u after t article amount time k n slot end first second third =
+    let message = fitting (transaction_bytes on_hand u) blank in
+    let done : Outcome = record { table = committed on_hand u; slot = message; answer = Ok (Number time) } in
+    let left : record { table = after; slot = take n end; answer = Ok (Number time) } ≡ done =
+    (λ i. record { table = third.3 i; slot = (ap (take n) third.4 ∙ held_written blank message n third.2) i; answer = Ok (Number time) })
     in
     let committing : moved_written v u time slot ≡ done = ap (λ o. decided o (refused_at (abandoned u) slot) done) (ap (commit_refusal on_hand u) (sym first.1) ∙ third.0) in
     let writing : moved_opened v w article amount slot ≡ moved_written v u time slot =

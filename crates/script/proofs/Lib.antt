@@ -1,5 +1,3 @@
-mod Forms
 mod Held
 mod Lined
-mod Numbers
 mod Turns

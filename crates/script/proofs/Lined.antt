@@ -1,5 +1,5 @@
 -- A text line by line.
-use Rattle.std.proofs.Common.{◌≡◌, ℕ, zero, suc, ◌-◌, ◌<◌, ◌≤◌, min, eqb, List, [], ◌∷◌, ◌++◌, length, get_or, take, drop, sym, refl, ap, ◌∙◌, ⊎_elim, arith}
+use Rattle.std.proofs.Common.{◌≡◌, ℕ, zero, suc, ◌<◌, min, eqb, List, [], ◌∷◌, ◌++◌, length, get_or, take, drop, sym, refl, ap, ◌∙◌, ⊎_elim, arith}
 use Rattle.std.proofs.lemmas.List.{append_assoc, append-nil, take_all}
 use Rattle.std.proofs.lemmas.Bool.{cases_lt, cond-false, cond-true, eq-eqb, ne_eqb}
 use Rattle.script.specs.Desk.{DeskView, ran}
@@ -11,22 +11,26 @@ ended b bytes e = cond-true (eqb b 10) ([] ∷ lines bytes) (before b (lines byt
 going_on : (b : ℕ) (bytes : List ℕ) → (b ≡ 10 → ⊥) → lines (b ∷ bytes) ≡ before b (lines bytes)
 going_on b bytes e = cond-false (eqb b 10) ([] ∷ lines bytes) (before b (lines bytes)) (ne_eqb b 10 e)
 
--- n bytes other than 10, and then byte 10 or the end
-pub first_line : (bytes : List ℕ) (n : ℕ) → 0 < length bytes → n ≤ length bytes → ((k : ℕ) → k < n → get_or bytes k 0 ≡ 10 → ⊥) → (n < length bytes → get_or bytes n 0 ≡ 10) → lines bytes ≡ take n bytes ∷ lines (drop (suc n) bytes)
-first_line [] n some within clear end = absurd (omega arith)
-first_line (b ∷ bytes) zero some within clear end = ended b bytes (end some)
-first_line (b ∷ []) (suc n) some within clear end =
-    let none : n ≡ 0 = omega arith in
-    going_on b [] (clear 0 (omega arith)) ∙ ap (λ m. take (suc m) (b ∷ []) ∷ lines (drop (suc (suc m)) (b ∷ []))) (sym none)
-first_line (b ∷ (y ∷ bytes)) (suc n) some within clear end =
-    going_on b (y ∷ bytes) (clear 0 (omega arith)) ∙ ap (before b) (first_line (y ∷ bytes) n (omega arith) (omega arith) (λ k h. clear (suc k) (omega arith)) (λ h. end (omega arith)))
+-- n bytes other than 10, and then byte 10
+pub first_line : (bytes : List ℕ) (n : ℕ) → n < length bytes → ((k : ℕ) → k < n → get_or bytes k 0 ≡ 10 → ⊥) → get_or bytes n 0 ≡ 10 → lines bytes ≡ take n bytes ∷ lines (drop (suc n) bytes)
+first_line [] n within clear end = absurd (omega arith)
+first_line (b ∷ bytes) zero within clear end = ended b bytes end
+first_line (b ∷ bytes) (suc n) within clear end =
+    going_on b bytes (clear 0 (omega arith)) ∙ ap (before b) (first_line bytes n (omega arith) (λ k h. clear (suc k) (omega arith)) end)
+
+-- bytes other than 10
+pub last_line : (bytes : List ℕ) → 0 < length bytes → ((k : ℕ) → k < length bytes → get_or bytes k 0 ≡ 10 → ⊥) → lines bytes ≡ bytes ∷ []
+last_line [] some clear = absurd (omega arith)
+last_line (b ∷ []) some clear = going_on b [] (clear 0 (omega arith))
+last_line (b ∷ (y ∷ bytes)) some clear =
+    going_on b (y ∷ bytes) (clear 0 (omega arith)) ∙ ap (before b) (last_line (y ∷ bytes) (omega arith) (λ k h. clear (suc k) (omega arith)))
 
 -- a text cut at the longest script
-pub cut : (input : List ℕ) (n : ℕ) → n ≡ min (length input) 32768 → take 32768 input ≡ take (n - 0) input
+pub cut : (input : List ℕ) (n : ℕ) → n ≡ min (length input) 32768 → take 32768 input ≡ take n input
 cut input n e =
     ⊎_elim
-    (λ h. take_all 32768 input (omega arith) ∙ sym (take_all (n - 0) input (omega arith)))
-    (λ h. ap (λ k. take k input) {x = 32768} {y = n - 0} (omega arith))
+    (λ h. take_all 32768 input (omega arith) ∙ sym (take_all n input (omega arith)))
+    (λ h. ap (λ k. take k input) {x = 32768} {y = n} (omega arith))
     (cases_lt (length input) 32768)
 
 -- one line more

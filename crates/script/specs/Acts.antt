@@ -2,29 +2,33 @@
 use Rattle.std.specs.Prelude.{◌≡◌, ℕ, cond, List, length, ℤ, Some, None, Ok, Err, Option, Result}
 use Rattle.action.specs.declared.refusals.Refusal.{Refusal}
 use Rattle.kind.specs.Meanings.{on_hand}
-use Rattle.table.specs.declared.faults.TableFault.{TableFault}
 use Rattle.table.specs.Answers.{figure, figure_refusal, open_item, open_item_refusal}
-use Rattle.table.specs.Faults.{shown}
 use Rattle.table.specs.Offers.{offer_bytes, offer_refusal}
 use Rattle.table.specs.Transactions.{abandoned, commit_refusal, committed, fitting, new_action, next_time, open_refusal, opened, ticket, transaction_bytes, write_refusal, written}
 use Rattle.table.specs.View.{View}
 use Rattle.script.specs.declared.answers.Answer.{Answer}
-use Rattle.script.specs.declared.answers.Answer.TheVariants.{Number, Figure, Refused}
+use Rattle.script.specs.declared.answers.Answer.TheVariants.{Number, Figure}
+use Rattle.script.specs.declared.faults.LineFault.{LineFault}
+use Rattle.script.specs.Faults.{number_of}
 use Rattle.script.specs.Slots.{blank}
+
+-- what a command answers, or the number that it is refused by
+abbrev pub Reply : Type 0
+Reply = Result Answer ℕ
 
 -- what a command leaves of its site's table and of its slot, and what it answers
 pub record Outcome : Type 0 where
   pub table : View
   pub slot : List ℕ
-  pub answer : Answer
+  pub answer : Reply
 
 -- a call that may be refused: what follows where it is, and where it is not
 abbrev pub decided : {X : Type 0} → Option Refusal → (Refusal → X) → X → X
 decided None refused granted = granted
 decided (Some r) refused granted = refused r
 
-abbrev pub refuse : Refusal → Answer
-refuse r = Refused r.number
+abbrev pub refuse : Refusal → Reply
+refuse r = Err r.number
 
 -- the slot stays, and the refusal is answered
 abbrev pub refused_at : View → List ℕ → Refusal → Outcome
@@ -33,7 +37,7 @@ refused_at v slot r = record { table = v; slot = slot; answer = refuse r }
 -- M, with the write done: commit into the slot, or abandon
 abbrev pub moved_written : View → View → ℕ → List ℕ → Outcome
 moved_written v w time slot =
-    decided (commit_refusal on_hand w (ticket on_hand v)) (refused_at (abandoned w) slot) (record { table = committed on_hand w; slot = fitting (transaction_bytes on_hand w) blank; answer = Number time })
+    decided (commit_refusal on_hand w (ticket on_hand v)) (refused_at (abandoned w) slot) (record { table = committed on_hand w; slot = fitting (transaction_bytes on_hand w) blank; answer = Ok (Number time) })
 
 -- M, with the transaction open: write with operation 1, or abandon
 abbrev pub moved_opened : View → View → ℕ → ℤ → List ℕ → Outcome
@@ -47,25 +51,25 @@ moved v article amount slot = decided (open_refusal v) (refused_at v slot) (move
 -- O: the offer goes into the slot, and its length is answered
 abbrev pub offered : View → ℕ → ℕ → List ℕ → Outcome
 offered v peer article slot =
-    decided (offer_refusal on_hand v peer article blank) (refused_at v slot) (record { table = v; slot = offer_bytes on_hand v peer article; answer = Number (length (offer_bytes on_hand v peer article)) })
+    decided (offer_refusal on_hand v peer article blank) (refused_at v slot) (record { table = v; slot = offer_bytes on_hand v peer article; answer = Ok (Number (length (offer_bytes on_hand v peer article))) })
 
 -- F
-abbrev pub figured : View → ℕ → Answer
-figured v article = decided (figure_refusal v article) refuse (Figure (figure v article))
+abbrev pub figured : View → ℕ → Reply
+figured v article = decided (figure_refusal v article) refuse (Ok (Figure (figure v article)))
 
 -- P: 1 where the site shows an open item
-abbrev pub flagged : View → ℕ → ℕ → Answer
-flagged v peer article = decided (open_item_refusal v article peer) refuse (Number (cond (open_item v article peer) 1 0))
+abbrev pub flagged : View → ℕ → ℕ → Reply
+flagged v peer article = decided (open_item_refusal v article peer) refuse (Ok (Number (cond (open_item v article peer) 1 0)))
 
--- the answer that a call's result stands for
-abbrev pub answered : Result Answer TableFault → Answer
-answered (Ok a) = a
-answered (Err e) = refuse (shown e)
+-- the reply that a command's result stands for
+abbrev pub answered : Result Answer LineFault → Reply
+answered (Ok a) = Ok a
+answered (Err e) = Err (number_of e)
 
 -- what the two commands that use a slot leave and answer
 
-abbrev pub Moved : View → ℕ → ℤ → List ℕ → Result Answer TableFault → View → List ℕ → Type 0
+abbrev pub Moved : View → ℕ → ℤ → List ℕ → Result Answer LineFault → View → List ℕ → Type 0
 Moved v article amount slot r after now-held = record { table = after; slot = now-held; answer = answered r } ≡ moved v article amount slot
 
-abbrev pub Offered : View → ℕ → ℕ → List ℕ → Result Answer TableFault → List ℕ → Type 0
+abbrev pub Offered : View → ℕ → ℕ → List ℕ → Result Answer LineFault → List ℕ → Type 0
 Offered v peer article slot r now-held = record { table = v; slot = now-held; answer = answered r } ≡ offered v peer article slot

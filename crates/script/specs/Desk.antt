@@ -1,19 +1,18 @@
 -- What a line does to the desk, and what it prints. Assumes nothing.
-use Rattle.std.specs.Prelude.{◌≡◌, ℕ, zero, suc, List, [], map, replicate, Some, None, vec_items, Option, Result, slice_index_or, slice_set}
+use Rattle.std.specs.Prelude.{◌≡◌, ℕ, zero, suc, List, [], map, replicate, Some, None, Err, vec_items, Option, Result, slice_index_or, slice_set}
 use Rattle.action.specs.declared.orders.Action.{Action}
 use Rattle.history.specs.declared.racks.Rack.{Rack}
 use Rattle.history.specs.declared.strips.Strip.{Strip}
 use Rattle.history.specs.Strips as Strips
 use Rattle.kind.specs.Meanings.{on_hand}
-use Rattle.table.specs.declared.faults.TableFault.{TableFault}
 use Rattle.table.specs.View.{View, fresh, view}
 use Rattle.script.specs.declared.answers.Answer.{Answer}
-use Rattle.script.specs.declared.answers.Answer.TheVariants.{Refused}
 use Rattle.script.specs.declared.commands.Command.{Command}
 use Rattle.script.specs.declared.commands.Command.TheVariants.{Move, Offer, Figure, OpenItem}
 use Rattle.script.specs.declared.desks.Desk.{Desk}
-use Rattle.script.specs.Acts.{Outcome, answered, figured, flagged, moved, offered}
-use Rattle.script.specs.Lines.{command}
+use Rattle.script.specs.declared.faults.LineFault.{LineFault}
+use Rattle.script.specs.Acts.{Outcome, Reply, answered, figured, flagged, moved, offered}
+use Rattle.script.specs.Lines.{command, site_of}
 use Rattle.script.specs.Sheets.{printed}
 use Rattle.script.specs.Slots.{held}
 
@@ -70,26 +69,43 @@ with_table d zero v = record { first = v; second = d.second; third = d.third; sl
 with_table d (suc zero) v = record { first = d.first; second = v; third = d.third; slots = d.slots }
 with_table d (suc (suc n)) v = record { first = d.first; second = d.second; third = v; slots = d.slots }
 
--- the same desk, but for a slot
-abbrev pub with_slot : DeskView → ℕ → List ℕ → DeskView
-with_slot d slot bytes = record { first = d.first; second = d.second; third = d.third; slots = slice_set d.slots slot bytes }
+-- the same desk, but for its slots
+abbrev pub with_slots : DeskView → List (List ℕ) → DeskView
+with_slots d slots = record { first = d.first; second = d.second; third = d.third; slots = slots }
 
--- what a command leaves and answers
-pub record Turn : Type 0 where
-  pub desk : DeskView
-  pub answer : Answer
+-- what a command leaves of its site's table and of the slots, and what it answers
+pub record SiteTurn : Type 0 where
+  pub table : View
+  pub slots : List (List ℕ)
+  pub answer : Reply
 
 -- a command that uses a slot
-abbrev pub settled : DeskView → ℕ → ℕ → Outcome → Turn
-settled d site slot o = record { desk = with_slot (with_table d site o.table) slot o.slot; answer = o.answer }
+abbrev pub settled : List (List ℕ) → ℕ → Outcome → SiteTurn
+settled slots slot o = record { table = o.table; slots = slice_set slots slot o.slot; answer = o.answer }
+
+-- a command, given its site's table and the slots
+abbrev pub acted_at : View → List (List ℕ) → Command → SiteTurn
+acted_at v slots (Move site article amount slot) = settled slots slot (moved v article amount (slice_index_or slots slot []))
+acted_at v slots (Offer site peer article slot) = settled slots slot (offered v peer article (slice_index_or slots slot []))
+acted_at v slots (Figure site article) = record { table = v; slots = slots; answer = figured v article }
+acted_at v slots (OpenItem site peer article) = record { table = v; slots = slots; answer = flagged v peer article }
+
+abbrev pub ActedAt : View → List (List ℕ) → Command → Result Answer LineFault → View → List (List ℕ) → Type 0
+ActedAt v slots c r after now-slots = record { table = after; slots = now-slots; answer = answered r } ≡ acted_at v slots c
+
+-- what a command leaves of the desk, and what it answers
+pub record Turn : Type 0 where
+  pub desk : DeskView
+  pub answer : Reply
+
+-- the other sites' tables stay
+abbrev pub turned : DeskView → ℕ → SiteTurn → Turn
+turned d site t = record { desk = with_slots (with_table d site t.table) t.slots; answer = t.answer }
 
 abbrev pub acted : DeskView → Command → Turn
-acted d (Move site article amount slot) = settled d site slot (moved (table_at d site) article amount (slice_index_or d.slots slot []))
-acted d (Offer site peer article slot) = settled d site slot (offered (table_at d site) peer article (slice_index_or d.slots slot []))
-acted d (Figure site article) = record { desk = d; answer = figured (table_at d site) article }
-acted d (OpenItem site peer article) = record { desk = d; answer = flagged (table_at d site) peer article }
+acted d c = turned d (site_of c) (acted_at (table_at d (site_of c)) d.slots c)
 
-abbrev pub Acted : DeskView → Command → Result Answer TableFault → DeskView → Type 0
+abbrev pub Acted : DeskView → Command → Result Answer LineFault → DeskView → Type 0
 Acted d c r after = record { desk = after; answer = answered r } ≡ acted d c
 
 -- what a line leaves and prints
@@ -106,7 +122,7 @@ letter (OpenItem site peer article) = 80
 
 -- a line of no known form changes nothing, and is printed under `?` as refused by 18
 abbrev pub ran_command : DeskView → Option Command → Line
-ran_command d None = record { desk = d; bytes = printed 63 (Refused 18) }
+ran_command d None = record { desk = d; bytes = printed 63 (Err 18) }
 ran_command d (Some c) = record { desk = (acted d c).desk; bytes = printed (letter c) (acted d c).answer }
 
 abbrev pub ran : DeskView → List ℕ → Line

@@ -1,5 +1,6 @@
 pub mod Acts
 pub mod Desk
+pub mod Faults
 pub mod Lines
 pub mod Scripts
 pub mod Sheets

@@ -1,6 +1,6 @@
 -- Which lines there are. A line is a letter and a body: `M`, `O`, `F` or `P`, and then fields with nothing
 -- between or after them. Each field is one digit, but for the sign and the amount of `M`. Assumes nothing.
-use Rattle.std.specs.Prelude.{◌≡◌, ℕ, ◌+◌, ◌-◌, ◌*◌, ◌<◌, Bool, true, false, cond, ◌&&◌, ◌||◌, List, length, drop, ℤ, pos, neg_ℤ, Some, None, Option, MatchOption, ◌==◌, nat_le, slice_index}
+use Rattle.std.specs.Prelude.{◌≡◌, ℕ, ◌+◌, ◌-◌, ◌*◌, ◌<◌, Bool, true, false, cond, ◌&&◌, ◌||◌, List, length, drop, ℤ, pos, neg_ℤ, Some, None, Option, MatchOption, ◌==◌, nat_le, nat_lt, slice_index}
 use Rattle.script.specs.declared.commands.Command.{Command}
 use Rattle.script.specs.declared.commands.Command.TheVariants.{Move, Offer, Figure, OpenItem}
 
@@ -8,16 +8,20 @@ use Rattle.script.specs.declared.commands.Command.TheVariants.{Move, Offer, Figu
 abbrev pub place : List ℕ → ℕ → ℕ
 place bytes i = slice_index bytes i
 
--- one of the bytes `0` to `9`
-abbrev pub is_digit : ℕ → Bool
-is_digit b = nat_le 48 b && nat_le b 57
-
 abbrev pub value : ℕ → ℕ
 value b = b - 48
 
+-- a digit whose value is below a bound, 10 at the most
+abbrev pub is_digit_below : ℕ → ℕ → Bool
+is_digit_below bound b = nat_le 48 b && nat_lt (value b) bound
+
+-- one of the bytes `0` to `9`
+abbrev pub is_digit : ℕ → Bool
+is_digit b = is_digit_below 10 b
+
 -- a site that can act: `0`, `1` or `2`
 abbrev pub is_site : ℕ → Bool
-is_site b = nat_le 48 b && nat_le b 50
+is_site b = is_digit_below 3 b
 
 -- `+` or `-`
 abbrev pub is_sign : ℕ → Bool
@@ -73,6 +77,13 @@ command_of letter body =
 abbrev pub command : List ℕ → Option Command
 command line = command_of (place line 0) (drop 1 line)
 
+-- the site that acts
+abbrev pub site_of : Command → ℕ
+site_of (Move site article amount slot) = site
+site_of (Offer site peer article slot) = site
+site_of (Figure site article) = site
+site_of (OpenItem site peer article) = site
+
 -- a command's slot is one of the ten
 abbrev pub Placed : Command → Type 0
 Placed (Move site article amount slot) = slot < 10
@@ -82,11 +93,8 @@ Placed (OpenItem site peer article) = Unit {0}
 
 -- what reading one field answers
 
-abbrev pub Digit : ℕ → Option ℕ → Type 0
-Digit b r = MatchOption r (is_digit b ≡ false) (λ d. (is_digit b ≡ true) × (d ≡ value b) × (d < 10))
-
-abbrev pub Site : ℕ → Option ℕ → Type 0
-Site b r = MatchOption r (is_site b ≡ false) (λ s. (is_site b ≡ true) × (s ≡ value b) × (s < 3))
+abbrev pub DigitBelow : ℕ → ℕ → Option ℕ → Type 0
+DigitBelow bound b r = MatchOption r (is_digit_below bound b ≡ false) (λ d. (is_digit_below bound b ≡ true) × (d ≡ value b) × (d < bound))
 
 abbrev pub Hundreds : ℕ → ℕ → ℕ → Option ℕ → Type 0
 Hundreds b c d r = MatchOption r (are_digits b c d ≡ false) (λ n. (are_digits b c d ≡ true) × (n ≡ hundreds b c d) × (n < 1000))

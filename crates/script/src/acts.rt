@@ -3,11 +3,12 @@ ghost use Rattle.std.specs.Prelude.{◌≡◌, true};
 ghost use Rattle.kind.specs.Meanings.{on_hand};
 ghost use Rattle.table.specs.Transactions.{abandoned, holds};
 ghost use Rattle.table.specs.View.{view};
-ghost use Rattle.script.specs.Acts.{Moved, Offered, answered, figured, flagged};
+ghost use Rattle.script.specs.Acts.{Moved, Offered};
 ghost use Rattle.script.specs.Slots.{held};
 
 use crate::answers::Answer;
-use crate::slots::Slot;
+use crate::faults::LineFault;
+use crate::slots::{SLOT_BYTES, Slot};
 use history::History;
 use kind::OnHand;
 use table::{Table, TableFault, Ticket};
@@ -15,15 +16,15 @@ use table::{Table, TableFault, Ticket};
 // The operation that adds an amount.
 const ADD: u8 = 1;
 
-// Abandons the open transaction. That is not refused, since the ticket is the table's own.
-fn give_up<H: History>(table: &mut Table<OnHand, H>, ticket: Ticket)
+// Abandons the open transaction, and hands on why. That is not refused, since the ticket is the
+// table's own.
+fn give_up<H: History>(table: &mut Table<OnHand, H>, ticket: Ticket, fault: TableFault) -> LineFault
     requires { holds on_hand (view H.items H.room table.old) ticket ≡ true }
-    ensures { view H.items H.room table.new ≡ abandoned (view H.items H.room table.old) }
+    ensures table { view H.items H.room table.new ≡ abandoned (view H.items H.room table.old) }
+    ensures fault { result ≡ LineFault.Table fault }
 {
-    match table.abandon(ticket) {
-        Ok(()) => {}
-        Err(_) => unreachable(),
-    }
+    table.abandon(ticket).unwrap();
+    LineFault::Table(fault)
 }
 
 // A transaction of one write, whose message goes into the slot. It is abandoned where its write or
@@ -33,26 +34,21 @@ pub(crate) fn move_stock<H: History>(
     article: u8,
     amount: i32,
     slot: &mut Slot,
-) -> Result<Answer, TableFault>
+) -> Result<Answer, LineFault>
     ensures { Moved (view H.items H.room table.old) article amount (held slot.old) result (view H.items H.room table.new) (held slot.new) }
 {
     let ticket = table.open()?;
     let time = match table.write(&ticket, article, ADD, amount) {
         Ok(time) => time,
-        Err(fault) => {
-            give_up(table, ticket);
-            return Err(fault);
-        }
+        Err(fault) => return Err(give_up(table, ticket, fault)),
     };
-    match table.commit(ticket, &mut slot.bytes) {
+    let mut buffer = [0; SLOT_BYTES];
+    match table.commit(ticket, &mut buffer) {
         Ok((_, length)) => {
-            slot.used = length;
+            slot.keep(&buffer[..length]);
             Ok(Answer::Number(u64::from(time)))
         }
-        Err((fault, ticket)) => {
-            give_up(table, ticket);
-            Err(fault)
-        }
+        Err((fault, ticket)) => Err(give_up(table, ticket, fault)),
     }
 }
 
@@ -62,31 +58,11 @@ pub(crate) fn offer_article<H: History>(
     peer: u8,
     article: u8,
     slot: &mut Slot,
-) -> Result<Answer, TableFault>
+) -> Result<Answer, LineFault>
     ensures { Offered (view H.items H.room table.now) peer article (held slot.old) result (held slot.new) }
 {
-    let length = table.offer(peer, article, &mut slot.bytes)?;
-    slot.used = length;
+    let mut buffer = [0; SLOT_BYTES];
+    let length = table.offer(peer, article, &mut buffer)?;
+    slot.keep(&buffer[..length]);
     Ok(Answer::Number(length as u64))
-}
-
-pub(crate) fn figure_shown<H: History>(
-    table: &Table<OnHand, H>,
-    article: u8,
-) -> Result<Answer, TableFault>
-    ensures { answered result ≡ figured (view H.items H.room table.now) article }
-{
-    let figure = table.figure(article)?;
-    Ok(Answer::Figure(figure))
-}
-
-pub(crate) fn open_item_shown<H: History>(
-    table: &Table<OnHand, H>,
-    peer: u8,
-    article: u8,
-) -> Result<Answer, TableFault>
-    ensures { answered result ≡ flagged (view H.items H.room table.now) peer article }
-{
-    let is_open = table.open_item(article, peer)?;
-    Ok(Answer::Number(u64::from(is_open)))
 }

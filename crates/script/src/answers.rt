@@ -1,7 +1,6 @@
-// What a command answers: a time, a length or a flag, a figure, or the number of a refusal.
+// What a command answers where it is not refused: a time, a length or a flag, or a figure.
 #[derive(Clone, Copy, Debug, PartialEq, Eq)]
 pub enum Answer {
     Number(u64),
     Figure(i64),
-    Refused(u8),
 }

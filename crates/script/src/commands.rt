@@ -1,3 +1,7 @@
+ghost use Rattle.std.specs.Prelude.{◌≡◌, ◌<◌};
+ghost use Rattle.script.specs.Desk.{letter};
+ghost use Rattle.script.specs.Lines.{site_of};
+
 // What a line asks of the desk: which site acts, and on what. A site, a peer, an article and a slot
 // are a digit each.
 #[derive(Clone, Copy, Debug, PartialEq, Eq)]
@@ -23,4 +27,29 @@ pub enum Command {
         peer: u8,
         article: u8,
     },
+}
+
+impl Command {
+    pub(crate) fn letter(&self) -> char
+        ensures value { result ≡ letter self.now }
+        ensures ascii { result < 128 }
+    {
+        match self {
+            Command::Move { .. } => 'M',
+            Command::Offer { .. } => 'O',
+            Command::Figure { .. } => 'F',
+            Command::OpenItem { .. } => 'P',
+        }
+    }
+
+    pub(crate) fn site(&self) -> u8
+        ensures { result ≡ site_of self.now }
+    {
+        match *self {
+            Command::Move { site, .. }
+            | Command::Offer { site, .. }
+            | Command::Figure { site, .. }
+            | Command::OpenItem { site, .. } => site,
+        }
+    }
 }

@@ -1,5 +1,3 @@
-ghost use Rattle.std.specs.Prelude.{◌≡◌, length};
-
 use crate::slots::Slot;
 use history::{Rack, Strip};
 use kind::OnHand;
@@ -12,5 +10,4 @@ pub struct Desk {
     pub(crate) second: Table<OnHand, Rack>,
     pub(crate) third: Table<OnHand, Strip>,
     pub(crate) slots: [Slot; 10],
-    ghost ten: { length slots ≡ 10 },
 }

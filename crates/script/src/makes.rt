@@ -2,7 +2,6 @@ ghost use Rattle.std.specs.Prelude.{◌≡◌, ◌<◌, IfOk};
 ghost use Rattle.script.specs.Desk.{FreshDesk, desk_view};
 
 use crate::desks::Desk;
-use crate::slots::Slot;
 use action::Setup;
 use history::{Rack, Strip};
 use std::alloc::{AllocError, Global};
@@ -19,29 +18,23 @@ fn setup(site: u32) -> Setup
     requires { site < 3 }
     ensures { (result.group ≡ 1) × ((result.sites ≡ 3) × ((result.own ≡ site) × (result.articles ≡ 4))) }
 {
-    match Setup::new(1, 3, site, 4) {
-        Ok(setup) => setup,
-        Err(_) => unreachable(),
-    }
+    Setup::new(1, 3, site, 4).unwrap()
 }
 
 impl Desk {
     // A desk of three sites on which nothing has moved yet, and ten empty slots.
+    #[tactic(auto, using(crate::proofs::Held::all_empty))]
     pub fn new(heap: Global) -> Result<Desk, AllocError>
         ensures { IfOk result (λ desk. FreshDesk (desk_view desk)) }
     {
         let first = Rack::new(heap, PLACES)?;
         let second = Rack::new(heap, PLACES)?;
         let third = Strip::new(vec![in heap; 0; STRIP_BYTES]?);
-        let empty = Slot {
-            bytes: [0; 1200],
-            used: 0,
-        };
         Ok(Desk {
             first: Table::new(setup(0), first),
             second: Table::new(setup(1), second),
             third: Table::new(setup(2), third),
-            slots: [empty; 10],
+            slots: Default::default(),
         })
     }
 }

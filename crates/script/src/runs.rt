@@ -1,119 +1,64 @@
-ghost use Rattle.std.specs.Prelude.{◌≡◌, ◌<◌};
-ghost use Rattle.script.specs.Acts.{answered};
-ghost use Rattle.script.specs.Desk.{Acted, acted, desk_view, letter, ran};
+ghost use Rattle.std.specs.Prelude.{◌≡◌, ◌<◌, map};
+ghost use Rattle.table.specs.View.{view};
+ghost use Rattle.script.specs.Desk.{Acted, ActedAt, desk_view, ran};
 ghost use Rattle.script.specs.Lines.{Placed};
 ghost use Rattle.script.specs.Sheets.{sheet_bytes};
+ghost use Rattle.script.specs.Slots.{held};
 
-use crate::acts::{figure_shown, move_stock, offer_article, open_item_shown};
+use crate::acts::{move_stock, offer_article};
 use crate::answers::Answer;
 use crate::commands::Command;
 use crate::desks::Desk;
+use crate::faults::LineFault;
 use crate::parses::parse;
 use crate::prints::print;
 use crate::sheets::SheetLine;
-use table::TableFault;
+use crate::slots::Slot;
+use history::History;
+use kind::OnHand;
+use table::Table;
 
-// The number of the refusal of a line that has no known form.
-const NO_KNOWN_FORM: u8 = 18;
-
-impl Command {
-    fn letter(&self) -> u8
-        ensures { result ≡ letter self.now }
-    {
-        match self {
-            Command::Move { .. } => b'M',
-            Command::Offer { .. } => b'O',
-            Command::Figure { .. } => b'F',
-            Command::OpenItem { .. } => b'P',
-        }
-    }
-}
-
-fn answer(outcome: Result<Answer, TableFault>) -> Answer
-    ensures { result ≡ answered outcome }
+// Does what the command asks, at the table of its site.
+fn act_at<H: History>(
+    table: &mut Table<OnHand, H>,
+    slots: &mut [Slot; 10],
+    command: Command,
+) -> Result<Answer, LineFault>
+    requires { Placed command }
+    ensures { ActedAt (view H.items H.room table.old) (map held slots.old) command result (view H.items H.room table.new) (map held slots.new) }
 {
-    match outcome {
-        Ok(answer) => answer,
-        Err(fault) => Answer::Refused(fault.refusal().number),
+    match command {
+        Command::Move {
+            article,
+            amount,
+            slot,
+            ..
+        } => move_stock(table, article, amount, &mut slots[usize::from(slot)]),
+        Command::Offer {
+            peer,
+            article,
+            slot,
+            ..
+        } => offer_article(table, peer, article, &mut slots[usize::from(slot)]),
+        Command::Figure { article, .. } => Ok(Answer::Figure(table.figure(article)?)),
+        Command::OpenItem { peer, article, .. } => {
+            let is_open = table.open_item(article, peer)?;
+            Ok(Answer::Number(u64::from(is_open)))
+        }
     }
 }
 
 impl Desk {
-    fn move_at(
-        &mut self,
-        site: u8,
-        article: u8,
-        amount: i32,
-        slot: u8,
-    ) -> Result<Answer, TableFault>
-        requires { slot < 10 }
-        ensures { Acted (desk_view self.old) (Command.Move site article amount slot) result (desk_view self.new) }
-    {
-        let slots = &mut self.slots;
-        let slot = &mut slots[slot as usize];
-        match site {
-            0 => move_stock(&mut self.first, article, amount, slot),
-            1 => move_stock(&mut self.second, article, amount, slot),
-            _ => move_stock(&mut self.third, article, amount, slot),
-        }
-    }
-
-    fn offer_at(&mut self, site: u8, peer: u8, article: u8, slot: u8) -> Result<Answer, TableFault>
-        requires { slot < 10 }
-        ensures { Acted (desk_view self.old) (Command.Offer site peer article slot) result (desk_view self.new) }
-    {
-        let slots = &mut self.slots;
-        let slot = &mut slots[slot as usize];
-        match site {
-            0 => offer_article(&self.first, peer, article, slot),
-            1 => offer_article(&self.second, peer, article, slot),
-            _ => offer_article(&self.third, peer, article, slot),
-        }
-    }
-
-    fn figure_at(&self, site: u8, article: u8) -> Result<Answer, TableFault>
-        ensures { Acted (desk_view self.now) (Command.Figure site article) result (desk_view self.now) }
-    {
-        match site {
-            0 => figure_shown(&self.first, article),
-            1 => figure_shown(&self.second, article),
-            _ => figure_shown(&self.third, article),
-        }
-    }
-
-    fn open_item_at(&self, site: u8, peer: u8, article: u8) -> Result<Answer, TableFault>
-        ensures { Acted (desk_view self.now) (Command.OpenItem site peer article) result (desk_view self.now) }
-    {
-        match site {
-            0 => open_item_shown(&self.first, peer, article),
-            1 => open_item_shown(&self.second, peer, article),
-            _ => open_item_shown(&self.third, peer, article),
-        }
-    }
-
-    fn act(&mut self, command: Command) -> Result<Answer, TableFault>
+    #[tactic(auto, using(crate::proofs::Turns::acted_by))]
+    fn act(&mut self, command: Command) -> Result<Answer, LineFault>
         requires { Placed command }
         ensures { Acted (desk_view self.old) command result (desk_view self.new) }
     {
-        match command {
-            Command::Move {
-                site,
-                article,
-                amount,
-                slot,
-            } => self.move_at(site, article, amount, slot),
-            Command::Offer {
-                site,
-                peer,
-                article,
-                slot,
-            } => self.offer_at(site, peer, article, slot),
-            Command::Figure { site, article } => self.figure_at(site, article),
-            Command::OpenItem {
-                site,
-                peer,
-                article,
-            } => self.open_item_at(site, peer, article),
+        let slots = &mut self.slots;
+        match command.site() {
+            0 => act_at(&mut self.first, slots, command),
+            1 => act_at(&mut self.second, slots, command),
+            _ => act_at(&mut self.third, slots, command),
         }
     }
 
@@ -125,9 +70,9 @@ impl Desk {
         match parse(line) {
             Some(command) => {
                 let outcome = self.act(command);
-                print(command.letter(), answer(outcome))
+                print(command.letter(), outcome)
             }
-            None => print(b'?', Answer::Refused(NO_KNOWN_FORM)),
+            None => print('?', Err(LineFault::NoKnownForm)),
         }
     }
 }

@@ -1,10 +1,25 @@
 ghost use Rattle.std.specs.Prelude.{◌≡◌, ◌≤◌, length};
 
-// A place for one message. It holds nothing while none of its bytes is used.
-#[derive(Clone, Copy)]
+use arrayvec::ArrayVec;
+
+// The most bytes that a message in a slot has.
+pub(crate) const SLOT_BYTES: usize = 1200;
+
+// A place for one message. A new one holds nothing.
+#[derive(Clone, Default, Drop)]
 pub struct Slot {
-    pub(crate) bytes: [u8; 1200],
-    pub(crate) used: usize,
-    ghost whole: { length bytes ≡ 1200 },
-    ghost within: { used ≤ 1200 },
+    message: ArrayVec<u8, SLOT_BYTES>,
+}
+
+impl Slot {
+    ghost use Rattle.script.specs.Slots.{held};
+
+    // Keeps the message in place of what the slot held.
+    pub(crate) fn keep(&mut self, message: &[u8])
+        requires { length message.now ≤ 1200 }
+        ensures { held self.new ≡ message.now }
+    {
+        self.message.clear();
+        self.message.try_extend_from_slice(message).unwrap();
+    }
 }

@@ -1,13 +1,15 @@
-use Rattle.std.proofs.Common.{◌≡◌, ℕ, List, ◌++◌, length, vec_items}
+use Rattle.std.proofs.Common.{◌≡◌, ◌++◌, map}
 use Rattle.script.specs.Desk.{desk_view}
 use Rattle.script.specs.Scripts.{lines, ran_all, script}
 use Rattle.script.proofs.scripts.run_script.Given as goal
 
 -- the lines done so far, and those of the rest
-abbrev pub invariant-loop-rest : goal.invariant-loop-rest
-invariant-loop-rest l =
-    let start = desk_view l.initial.desk in
-    (done : List (List ℕ)) × (script l.input ≡ done ++ lines l.rest) × (desk_view l.desk ≡ (ran_all start done).desk) × (vec_items l.out ≡ vec_items l.initial.out ++ (ran_all start done).bytes)
-
-abbrev pub decreases-loop-rest : goal.decreases-loop-rest
-decreases-loop-rest l = length l.rest
+abbrev pub invariant-loop-line : goal.invariant-loop-line
+invariant-loop-line l =
+    let done = map (λ b. b.now) l.yielded in
+    let ran = ran_all (desk_view l.initial.desk) done in
+    record {
+      whole : script l.input ≡ done ++ lines l.line-iterator.text.now;
+      desk : desk_view l.desk ≡ ran.desk;
+      printed : l.out.items ≡ l.initial.out.items ++ ran.bytes;
+    }
