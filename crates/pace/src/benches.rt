@@ -1,0 +1,123 @@
+ghost use Rattle.std.specs.Prelude.{◌+◌, ◌<◌, ◌≤◌, ◌^◌, length};
+
+use crate::bags::Bag;
+use crate::histories::Made;
+use action::Setup;
+use history::History;
+use kind::OnHand;
+use std::alloc::{AllocError, Global};
+use table::Table;
+
+// The operation that adds an amount.
+const ADD: u8 = 1;
+
+// How many articles there are.
+const ARTICLES: u8 = 4;
+
+// As long as the longest message, an offer of 256 actions.
+const LONGEST: usize = 4137;
+
+// A table with the messages that it wrote, or that it takes.
+#[derive(Drop)]
+pub struct Bench<H> {
+    setup: Setup,
+    pub(crate) table: Table<OnHand, H>,
+    pub(crate) bag: Bag,
+    // Where a message is written.
+    buffer: [u8; LONGEST],
+}
+
+// The set-up of one of three sites: messages go from site 0 to site 1.
+fn setup_of(site: u32) -> Setup
+    requires { site < 3 }
+{
+    Setup::new(1, 3, site, u32::from(ARTICLES)).unwrap()
+}
+
+impl<H: History + Made + Drop> Bench<H> {
+    // An empty table of the site that sends, and no messages.
+    pub(crate) fn new(heap: Global, places: usize) -> Result<Bench<H>, AllocError> {
+        let setup = setup_of(0);
+        Ok(Bench {
+            setup,
+            table: Table::new(setup, H::made(heap, places)?),
+            bag: Bag::new(heap)?,
+            buffer: [0; LONGEST],
+        })
+    }
+
+    // An empty table in place of the one that is here.
+    pub(crate) fn renew(&mut self, heap: Global, places: usize) -> Result<(), AllocError> {
+        self.table = Table::new(self.setup, H::made(heap, places)?);
+        Ok(())
+    }
+
+    // An empty table of the site that receives. The messages stay.
+    pub(crate) fn hand_over(&mut self, heap: Global, places: usize) -> Result<(), AllocError> {
+        self.setup = setup_of(1);
+        self.renew(heap, places)
+    }
+}
+
+// Posts a transaction of the actions of these numbers, and answers how many bytes of the buffer its
+// message takes; none if it is refused.
+fn post<H: History>(
+    table: &mut Table<OnHand, H>,
+    first: usize,
+    writes: usize,
+    buffer: &mut [u8],
+) -> usize
+    requires { first + writes < 2 ^ 64 }
+    ensures { result ≤ length buffer.old }
+{
+    let Ok(ticket) = table.open() else {
+        return 0;
+    };
+    for number in first..first + writes {
+        let article = (number % 4) as u8;
+        let amount = (number % 1000) as i32 - 500;
+        // Granted or refused, the ticket stays the table's.
+        let _ = table.write(&ticket, article, ADD, amount);
+    }
+    match table.commit(ticket, buffer) {
+        Ok((_, length)) => length,
+        Err((_, ticket)) => {
+            table.abandon(ticket).unwrap();
+            0
+        }
+    }
+}
+
+// The calls, each over all of a table or of the messages. What is refused adds nothing.
+impl<H: History> Bench<H> {
+    // Fills so many places of the table by transactions of so many writes.
+    pub(crate) fn commit_all(&mut self, places: usize, writes: usize) -> Result<(), AllocError>
+        requires { 0 < writes }
+    {
+        self.bag.clear();
+        for i in 0..places / writes {
+            let length = post(&mut self.table, i * writes, writes, &mut self.buffer);
+            self.bag.add(&self.buffer[..length])?;
+        }
+        Ok(())
+    }
+
+    // Offers every article to site 1.
+    pub(crate) fn offer_all(&mut self) -> Result<(), AllocError> {
+        self.bag.clear();
+        for article in 0..ARTICLES {
+            let offered = self.table.offer(1, article, &mut self.buffer);
+            self.bag.add(&self.buffer[..offered.unwrap_or(0)])?;
+        }
+        Ok(())
+    }
+
+    // Takes every message, and answers how many actions were new.
+    pub(crate) fn take_all(&mut self) -> u64 {
+        let mut sum: u64 = 0;
+        for message in self.bag.messages() {
+            sum = sum.wrapping_add(self.table.take(message).unwrap_or(0) as u64);
+        }
+        sum
+    }
+}
