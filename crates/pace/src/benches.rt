@@ -1,4 +1,4 @@
-ghost use Rattle.std.specs.Prelude.{◌+◌, ◌<◌, ◌≤◌, ◌^◌, length};
+ghost use Rattle.std.specs.Prelude.{◌<◌};
 
 use crate::bags::Bag;
 use crate::histories::Made;
@@ -6,6 +6,7 @@ use action::Setup;
 use history::History;
 use kind::OnHand;
 use std::alloc::{AllocError, Global};
+use std::ops::Range;
 use table::Table;
 
 // The operation that adds an amount.
@@ -59,45 +60,36 @@ impl<H: History + Made + Drop> Bench<H> {
     }
 }
 
-// Posts a transaction of the actions of these numbers, and answers how many bytes of the buffer its
-// message takes; none if it is refused.
-fn post<H: History>(
-    table: &mut Table<OnHand, H>,
-    first: usize,
-    writes: usize,
-    buffer: &mut [u8],
-) -> usize
-    requires { first + writes < 2 ^ 64 }
-    ensures { result ≤ length buffer.old }
-{
-    let Ok(ticket) = table.open() else {
-        return 0;
-    };
-    for number in first..first + writes {
-        let article = (number % 4) as u8;
-        let amount = (number % 1000) as i32 - 500;
-        // Granted or refused, the ticket stays the table's.
-        let _ = table.write(&ticket, article, ADD, amount);
-    }
-    match table.commit(ticket, buffer) {
-        Ok((_, length)) => length,
-        Err((_, ticket)) => {
-            table.abandon(ticket).unwrap();
-            0
-        }
-    }
-}
-
 // The calls, each over all of a table or of the messages. What is refused adds nothing.
 impl<H: History> Bench<H> {
+    // Posts a transaction of the actions of these numbers.
+    fn post(&mut self, numbers: Range<usize>) -> Result<(), AllocError> {
+        let Ok(ticket) = self.table.open() else {
+            return Ok(());
+        };
+        for number in numbers {
+            let article = (number % 4) as u8;
+            let amount = (number % 1000) as i32 - 500;
+            // Granted or refused, the ticket stays the table's.
+            let _ = self.table.write(&ticket, article, ADD, amount);
+        }
+        let length = match self.table.commit(ticket, &mut self.buffer) {
+            Ok((_, length)) => length,
+            Err((_, ticket)) => {
+                self.table.abandon(ticket).unwrap();
+                0
+            }
+        };
+        self.bag.add(&self.buffer[..length])
+    }
+
     // Fills so many places of the table by transactions of so many writes.
     pub(crate) fn commit_all(&mut self, places: usize, writes: usize) -> Result<(), AllocError>
         requires { 0 < writes }
     {
         self.bag.clear();
         for i in 0..places / writes {
-            let length = post(&mut self.table, i * writes, writes, &mut self.buffer);
-            self.bag.add(&self.buffer[..length])?;
+            self.post(i * writes..(i + 1) * writes)?;
         }
         Ok(())
     }
