@@ -1,20 +1,43 @@
 // The one call for C.
 #![tactic(auto)]
 
-ghost use Rattle.std.specs.Prelude.{◌≡◌};
+mod faults;
+
+ghost use Rattle.std.specs.Prelude.{◌≡◌, ◌<◌, ◌^◌, IfOk};
 ghost use Rattle.c_api.specs.Call.{Answered, Checked};
+ghost use Rattle.c_api.specs.Faults.{as_answer};
 
 use action::Setup;
+use faults::CallFault;
 use kind::{Flags, Kind, OnHand, Price};
 use message::check;
 
-// The check's count of actions, or minus the number of its refusal.
-fn actions_of<K: Kind>(setup: Setup, message: &[u8]) -> i64
-    ensures { Checked K.means setup message.now result }
+// How many actions the message carries, by the check of its kind.
+fn actions_of<K: Kind>(setup: Setup, message: &[u8]) -> Result<usize, CallFault>
+    ensures checked { Checked K.means setup message.now (as_answer result) }
+    ensures few { IfOk result (λ actions. actions < 2 ^ 63) }
 {
-    match check::<K>(setup, message) {
-        Ok(actions) => actions as i64,
-        Err(fault) => -i64::from(fault.refusal().number),
+    Ok(check::<K>(setup, message)?)
+}
+
+// How many actions the message carries, for the tables of a group and a kind.
+fn actions_for(
+    message: &[u8],
+    group: u32,
+    kind: u32,
+    sites: u32,
+    articles: u32,
+) -> Result<usize, CallFault>
+    ensures answered { Answered message.now group kind sites articles (as_answer result) }
+    ensures few { IfOk result (λ actions. actions < 2 ^ 63) }
+{
+    let setup = Setup::new(group, sites, 0, articles)?;
+    // By the numbers that the C interface gives the kinds.
+    match kind {
+        1 => actions_of::<OnHand>(setup, message),
+        2 => actions_of::<Flags>(setup, message),
+        3 => actions_of::<Price>(setup, message),
+        _ => Err(CallFault::NoTable),
     }
 }
 
@@ -30,13 +53,8 @@ pub extern "C" fn site_message_actions(
 ) -> i64
     ensures { Answered message.now group kind sites articles result }
 {
-    let Ok(setup) = Setup::new(group, sites, 0, articles) else {
-        return -1;
-    };
-    match kind {
-        1 => actions_of::<OnHand>(setup, message),
-        2 => actions_of::<Flags>(setup, message),
-        3 => actions_of::<Price>(setup, message),
-        _ => -1,
+    match actions_for(message, group, kind, sites, articles) {
+        Ok(actions) => actions as i64,
+        Err(fault) => -i64::from(fault.number()),
     }
 }
