@@ -15,12 +15,19 @@ const ADD: u8 = 1;
 // How many articles there are.
 const ARTICLES: u8 = 4;
 
+// Messages go from one site to another.
+const SENDER: u8 = 0;
+
+const RECEIVER: u8 = 1;
+
 // As long as the longest message, an offer of 256 actions.
 const LONGEST: usize = 4137;
 
 // A table with the messages that it wrote, or that it takes.
 #[derive(Drop)]
 pub struct Bench<H> {
+    heap: Global,
+    places: usize,
     setup: Setup,
     pub(crate) table: Table<OnHand, H>,
     pub(crate) bag: Bag,
@@ -28,18 +35,20 @@ pub struct Bench<H> {
     buffer: [u8; LONGEST],
 }
 
-// The set-up of one of three sites: messages go from site 0 to site 1.
-fn setup_of(site: u32) -> Setup
+// The set-up of one of three sites.
+fn setup_of(site: u8) -> Setup
     requires { site < 3 }
 {
-    Setup::new(1, 3, site, u32::from(ARTICLES)).unwrap()
+    Setup::new(1, 3, u32::from(site), u32::from(ARTICLES)).unwrap()
 }
 
 impl<H: History + Made + Drop> Bench<H> {
-    // An empty table of the site that sends, and no messages.
+    // An empty table of the sender, and no messages.
     pub(crate) fn new(heap: Global, places: usize) -> Result<Bench<H>, AllocError> {
-        let setup = setup_of(0);
+        let setup = setup_of(SENDER);
         Ok(Bench {
+            heap,
+            places,
             setup,
             table: Table::new(setup, H::made(heap, places)?),
             bag: Bag::new(heap)?,
@@ -48,15 +57,16 @@ impl<H: History + Made + Drop> Bench<H> {
     }
 
     // An empty table in place of the one that is here.
-    pub(crate) fn renew(&mut self, heap: Global, places: usize) -> Result<(), AllocError> {
-        self.table = Table::new(self.setup, H::made(heap, places)?);
+    pub(crate) fn renew(&mut self) -> Result<(), AllocError> {
+        let history = H::made(self.heap, self.places)?;
+        self.table = Table::new(self.setup, history);
         Ok(())
     }
 
-    // An empty table of the site that receives. The messages stay.
-    pub(crate) fn hand_over(&mut self, heap: Global, places: usize) -> Result<(), AllocError> {
-        self.setup = setup_of(1);
-        self.renew(heap, places)
+    // An empty table of the receiver. The messages stay.
+    pub(crate) fn hand_over(&mut self) -> Result<(), AllocError> {
+        self.setup = setup_of(RECEIVER);
+        self.renew()
     }
 }
 
@@ -83,25 +93,25 @@ impl<H: History> Bench<H> {
         self.bag.add(&self.buffer[..length])
     }
 
-    // Fills so many places of the table by transactions of so many writes.
-    pub(crate) fn commit_all(&mut self, places: usize, writes: usize) -> Result<(), AllocError>
+    // Fills the table by transactions of so many writes, and answers how many bytes their messages have.
+    pub(crate) fn commit_all(&mut self, writes: usize) -> Result<u64, AllocError>
         requires { 0 < writes }
     {
         self.bag.clear();
-        for i in 0..places / writes {
+        for i in 0..self.places / writes {
             self.post(i * writes..(i + 1) * writes)?;
         }
-        Ok(())
+        Ok(self.bag.size())
     }
 
-    // Offers every article to site 1.
-    pub(crate) fn offer_all(&mut self) -> Result<(), AllocError> {
+    // Offers every article to the receiver, and answers how many bytes the offers have.
+    pub(crate) fn offer_all(&mut self) -> Result<u64, AllocError> {
         self.bag.clear();
         for article in 0..ARTICLES {
-            let offered = self.table.offer(1, article, &mut self.buffer);
+            let offered = self.table.offer(RECEIVER, article, &mut self.buffer);
             self.bag.add(&self.buffer[..offered.unwrap_or(0)])?;
         }
-        Ok(())
+        Ok(self.bag.size())
     }
 
     // Takes every message, and answers how many actions were new.

@@ -107,9 +107,6 @@ impl FromStr for Job {
 impl Call {
     // Does each round begin with a new table?
     pub(crate) fn renews(self) -> bool {
-        match self {
-            Call::New | Call::Commit1 | Call::Commit16 | Call::Take(_, Taker::New) => true,
-            Call::Offer | Call::Take(_, Taker::Same) => false,
-        }
+        !matches!(self, Call::Offer | Call::Take(_, Taker::Same))
     }
 }

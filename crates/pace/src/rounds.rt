@@ -28,39 +28,39 @@ fn prepared<H: History + Made + Drop>(heap: Global, job: &Job) -> Result<Bench<H
     let mut bench: Bench<H> = Bench::new(heap, job.places)?;
     match job.call {
         Call::New | Call::Commit1 | Call::Commit16 => {}
-        Call::Offer => bench.commit_all(job.places, 1)?,
+        Call::Offer => {
+            bench.commit_all(1)?;
+        }
         Call::Take(messages, _) => {
-            bench.commit_all(job.places, 1)?;
+            bench.commit_all(1)?;
             if let Messages::Offers = messages {
                 bench.offer_all()?;
             }
-            bench.hand_over(heap, job.places)?;
+            bench.hand_over()?;
         }
     }
     Ok(bench)
 }
 
-// Does the work once, and answers the sum of what the calls answered.
-fn work<H: History>(bench: &mut Bench<H>, job: &Job) -> Result<u64, AllocError> {
-    match job.call {
-        Call::New => return Ok(0),
-        Call::Commit1 => bench.commit_all(job.places, 1)?,
-        Call::Commit16 => bench.commit_all(job.places, 16)?,
-        Call::Offer => bench.offer_all()?,
-        Call::Take(..) => return Ok(bench.take_all()),
+fn work<H: History>(bench: &mut Bench<H>, call: Call) -> Result<u64, AllocError> {
+    match call {
+        Call::New => Ok(0),
+        Call::Commit1 => bench.commit_all(1),
+        Call::Commit16 => bench.commit_all(16),
+        Call::Offer => bench.offer_all(),
+        Call::Take(..) => Ok(bench.take_all()),
     }
-    Ok(bench.bag.size())
 }
 
 // Does the work once, and then as often as there are rounds.
 pub(crate) fn run<H: History + Made + Drop>(heap: Global, job: &Job) -> Result<Report, AllocError> {
     let mut bench: Bench<H> = prepared(heap, job)?;
-    let mut answers = work(&mut bench, job)?;
+    let mut answers = work(&mut bench, job.call)?;
     for _ in 0..job.rounds {
         if job.call.renews() {
-            bench.renew(heap, job.places)?;
+            bench.renew()?;
         }
-        answers = answers.wrapping_add(work(&mut bench, job)?);
+        answers = answers.wrapping_add(work(&mut bench, job.call)?);
     }
     Ok(Report {
         answers,
