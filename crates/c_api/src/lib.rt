@@ -41,6 +41,17 @@ fn actions_for(
     }
 }
 
+// The answer as C gets it.
+fn as_answer(counted: Result<usize, CallFault>) -> i64
+    requires { IfOk counted (λ actions. actions < 2 ^ 63) }
+    ensures { result ≡ as_answer counted }
+{
+    match counted {
+        Ok(actions) => actions as i64,
+        Err(fault) => -i64::from(fault.number()),
+    }
+}
+
 // How many actions the message carries, for the tables of a group and a kind; minus 1 for a set-up
 // outside its limits or a kind that is not here, or minus the number of the reader's refusal.
 #[unsafe(no_mangle)]
@@ -53,8 +64,5 @@ pub extern "C" fn site_message_actions(
 ) -> i64
     ensures { Answered message.now group kind sites articles result }
 {
-    match actions_for(message, group, kind, sites, articles) {
-        Ok(actions) => actions as i64,
-        Err(fault) => -i64::from(fault.number()),
-    }
+    as_answer(actions_for(message, group, kind, sites, articles))
 }
