@@ -9,6 +9,6 @@ number NoTable = 1
 number (InReader e) = (shown e).number
 
 -- a count of actions, or minus the number of what is at fault
-abbrev pub as_answer : Result ℕ CallFault → ℤ
-as_answer (Ok n) = pos n
+abbrev pub as_answer : Result ℤ CallFault → ℤ
+as_answer (Ok n) = n
 as_answer (Err e) = neg_ℤ (pos (number e))

@@ -3,7 +3,7 @@
 
 mod faults;
 
-ghost use Rattle.std.specs.Prelude.{◌≡◌, ◌<◌, ◌^◌, IfOk};
+ghost use Rattle.std.specs.Prelude.{◌≡◌};
 ghost use Rattle.c_api.specs.Call.{Answered, Checked};
 ghost use Rattle.c_api.specs.Faults.{as_answer};
 
@@ -13,11 +13,11 @@ use kind::{Flags, Kind, OnHand, Price};
 use message::check;
 
 // How many actions the message carries, by the check of its kind.
-fn actions_of<K: Kind>(setup: Setup, message: &[u8]) -> Result<usize, CallFault>
-    ensures checked { Checked K.means setup message.now (as_answer result) }
-    ensures few { IfOk result (λ actions. actions < 2 ^ 63) }
+fn actions_of<K: Kind>(setup: Setup, message: &[u8]) -> Result<i64, CallFault>
+    ensures { Checked K.means setup message.now (as_answer result) }
 {
-    Ok(check::<K>(setup, message)?)
+    let actions = check::<K>(setup, message)?;
+    Ok(actions as i64)
 }
 
 // How many actions the message carries, for the tables of a group and a kind.
@@ -27,9 +27,8 @@ fn actions_for(
     kind: u32,
     sites: u32,
     articles: u32,
-) -> Result<usize, CallFault>
-    ensures answered { Answered message.now group kind sites articles (as_answer result) }
-    ensures few { IfOk result (λ actions. actions < 2 ^ 63) }
+) -> Result<i64, CallFault>
+    ensures { Answered message.now group kind sites articles (as_answer result) }
 {
     let setup = Setup::new(group, sites, 0, articles)?;
     // By the numbers that the C interface gives the kinds.
@@ -42,12 +41,11 @@ fn actions_for(
 }
 
 // The answer as C gets it.
-fn as_answer(counted: Result<usize, CallFault>) -> i64
-    requires { IfOk counted (λ actions. actions < 2 ^ 63) }
+fn as_answer(counted: Result<i64, CallFault>) -> i64
     ensures { result ≡ as_answer counted }
 {
     match counted {
-        Ok(actions) => actions as i64,
+        Ok(actions) => actions,
         Err(fault) => -i64::from(fault.number()),
     }
 }

@@ -7,4 +7,4 @@ pub returns : goal.returns
 returns c =
     let args = c.args in
     let is : to_z w64 (of_z w64 c.as_answer.result) ≡ as_answer c.actions_for.result = search rules in
-    subst (Answered args.message.now args.group args.kind args.sites args.articles) (sym is) c.actions_for.ensures.answered
+    subst (Answered args.message.now args.group args.kind args.sites args.articles) (sym is) c.actions_for.ensures
