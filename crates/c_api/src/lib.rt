@@ -1,26 +1,57 @@
 // The one call for C.
 #![tactic(auto)]
 
+mod faults;
+
 ghost use Rattle.std.specs.Prelude.{◌≡◌};
 ghost use Rattle.c_api.specs.Call.{Answered, Checked};
+ghost use Rattle.c_api.specs.Faults.{as_answer};
 
-use action::{Refusal, Setup};
+use action::Setup;
+use faults::CallFault;
 use kind::{Flags, Kind, OnHand, Price};
 use message::check;
 
-// The check's count of actions, or minus the number of its refusal.
-fn actions_of<K: Kind>(setup: Setup, message: &[u8]) -> i64
-    ensures { Checked K.means setup message.now result }
+// How many actions the message carries, by the check of its kind.
+fn actions_of<K: Kind>(setup: Setup, message: &[u8]) -> Result<i64, CallFault>
+    ensures { Checked K.means setup message.now (as_answer result) }
 {
-    match check::<K>(setup, message) {
-        Ok(actions) => actions as i64,
-        Err(fault) => -i64::from(Refusal::from(fault).number),
+    let actions = check::<K>(setup, message)?;
+    Ok(actions as i64)
+}
+
+// How many actions the message carries, for the tables of a group and a kind.
+fn actions_for(
+    message: &[u8],
+    group: u32,
+    kind: u32,
+    sites: u32,
+    articles: u32,
+) -> Result<i64, CallFault>
+    ensures { Answered message.now group kind sites articles (as_answer result) }
+{
+    let setup = Setup::new(group, sites, 0, articles)?;
+    // By the numbers that the C interface gives the kinds.
+    match kind {
+        1 => actions_of::<OnHand>(setup, message),
+        2 => actions_of::<Flags>(setup, message),
+        3 => actions_of::<Price>(setup, message),
+        _ => Err(CallFault::NoTable),
+    }
+}
+
+// The answer as C gets it.
+fn as_answer(counted: Result<i64, CallFault>) -> i64
+    ensures { result ≡ as_answer counted }
+{
+    match counted {
+        Ok(actions) => actions,
+        Err(fault) => -i64::from(fault.number()),
     }
 }
 
 // How many actions the message carries, for the tables of a group and a kind; minus 1 for a set-up
-// outside its limits or a kind that is not here, or minus the number of the reader's refusal. Kinds go
-// by their numbers here, since C has no type parameters.
+// outside its limits or a kind that is not here, or minus the number of the reader's refusal.
 #[unsafe(no_mangle)]
 pub extern "C" fn site_message_actions(
     message: &[u8],
@@ -31,13 +62,5 @@ pub extern "C" fn site_message_actions(
 ) -> i64
     ensures { Answered message.now group kind sites articles result }
 {
-    let Ok(setup) = Setup::new(group, sites, 0, articles) else {
-        return -1;
-    };
-    match kind {
-        1 => actions_of::<OnHand>(setup, message),
-        2 => actions_of::<Flags>(setup, message),
-        3 => actions_of::<Price>(setup, message),
-        _ => -1,
-    }
+    as_answer(actions_for(message, group, kind, sites, articles))
 }

@@ -1,6 +1,6 @@
 -- The worked examples as one table. Assumes nothing.
 use Rattle.std.specs.Prelude.{◌≡◌, ℕ, true, false, List, [], ◌∷◌, map, ℤ, pos, neg_ℤ, Some, None, Option}
-use Rattle.std.proofs.Common.{arith}
+use Rattle.std.proofs.Common.{lit<, lit≤}
 use Rattle.action.specs.declared.orders.Action.{Action}
 use Rattle.action.specs.declared.refusals.Refusal.{Refusal}
 use Rattle.action.specs.declared.setups.Setup.{Setup}
@@ -29,13 +29,13 @@ setup = record {
   sites = 3;
   own = 0;
   articles = 4;
-  some_group = omega arith;
-  group_fits = omega arith;
-  two_sites = omega arith;
-  few_sites = omega arith;
-  own_site = omega arith;
-  some_article = omega arith;
-  few_articles = omega arith;
+  some_group = lit≤ tt;
+  group_fits = lit≤ tt;
+  two_sites = lit≤ tt;
+  few_sites = lit≤ tt;
+  own_site = lit< tt;
+  some_article = lit≤ tt;
+  few_articles = lit≤ tt;
 }
 
 abbrev pub site : View

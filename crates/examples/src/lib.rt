@@ -1,7 +1,7 @@
 // The worked examples: a table that is proved of the definitions, and run by the code.
 #![tactic(auto)]
 
-ghost use Rattle.std.specs.Prelude.{◌≡◌, true, map};
+ghost use Rattle.std.specs.Prelude.{◌≡◌, true};
 ghost use Rattle.std.specs.List.{AllByRecursion};
 ghost use Rattle.kind.specs.Working.{working};
 ghost use Rattle.examples.specs.Table.{Holds, at, doing, examples};
@@ -9,21 +9,47 @@ ghost use Rattle.examples.specs.Table.{Holds, at, doing, examples};
 use action::Action;
 use kind::{Flags, Kind, OnHand, Price};
 
-// Works the moves, each an operation and an amount, from the figure on.
-fn worked<K: Kind>(start: i64, moves: &[(u8, i32)]) -> i64
-    ensures { result ≡ working K.means.steps start (map doing moves.now) }
+// The operations of the three kinds.
+const ADD: u8 = 1;
+
+const SWITCH_ON: u8 = 1;
+
+const SET: u8 = 1;
+
+const RAISE: u8 = 2;
+
+// An action of which only the pair matters.
+fn doing(operation: u8, amount: i32) -> Action
+    ensures { result ≡ doing (operation, amount) }
 {
-    let mut figure = start;
-    for (operation, amount) in moves {
-        figure = K::step(figure, *operation, *amount);
+    Action {
+        coordinator: 0,
+        time: 1,
+        transaction: 1,
+        article: 0,
+        operation,
+        amount,
     }
-    figure
+}
+
+// Works the actions from the figure on.
+fn worked<K: Kind>(start: i64, actions: &[Action]) -> i64
+    ensures { result ≡ working K.means.steps start actions.now }
+{
+    actions.iter().fold(start, |figure, action| {
+        K::step(figure, action.operation, action.amount)
+    })
 }
 
 fn on_hand_holds() -> bool
     ensures { result ≡ true }
 {
-    let moves = [(1, 1000), (1, 500), (1, -200), (1, -200)];
+    let moves = [
+        doing(ADD, 1000),
+        doing(ADD, 500),
+        doing(ADD, -200),
+        doing(ADD, -200),
+    ];
     worked::<OnHand>(OnHand::start(), &moves) == 1100
 }
 
@@ -31,25 +57,27 @@ fn on_hand_holds() -> bool
 fn set_prices_hold() -> bool
     ensures { result ≡ true }
 {
-    let raised = worked::<Price>(Price::start(), &[(1, 10_000), (2, 50)]);
-    let set = worked::<Price>(Price::start(), &[(2, 50), (1, 10_000)]);
-    raised == 10_500 && set == 10_000
+    let set = doing(SET, 10_000);
+    let raise = doing(RAISE, 50);
+    worked::<Price>(Price::start(), &[set, raise]) == 10_500
+        && worked::<Price>(Price::start(), &[raise, set]) == 10_000
 }
 
 fn raised_prices_hold() -> bool
     ensures { result ≡ true }
 {
-    worked::<Price>(333, &[(2, 15)]) == 337
-        && worked::<Price>(1, &[(2, -500)]) == 0
-        && worked::<Price>(99_999_999, &[(2, 1)]) == 99_999_999
+    worked::<Price>(333, &[doing(RAISE, 15)]) == 337
+        && worked::<Price>(1, &[doing(RAISE, -500)]) == 0
+        && worked::<Price>(99_999_999, &[doing(RAISE, 1)]) == 99_999_999
 }
 
 fn flags_hold() -> bool
     ensures { result ≡ true }
 {
-    worked::<Flags>(5, &[(1, 6)]) == 7
+    worked::<Flags>(5, &[doing(SWITCH_ON, 6)]) == 7
 }
 
+// An action of which only the time and the site matter.
 fn action_at(time: u32, site: u8) -> Action
     ensures { result ≡ at time site }
 {

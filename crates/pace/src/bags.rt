@@ -1,4 +1,8 @@
-ghost use Rattle.std.specs.Prelude.{◌≡◌, ◌≤◌, length};
+ghost use Rattle.std.specs.Prelude.{◌<◌};
+ghost use Rattle.std.specs.Slice.Iter.{chunks_exact_size};
+
+use std::alloc::{AllocError, Global};
+use std::slice::ChunksExact;
 
 // Room for the messages of 1,024 transactions of one write.
 const ROOM: usize = 37_888;
@@ -6,52 +10,40 @@ const ROOM: usize = 37_888;
 // Messages of one length, one behind the other.
 #[derive(Drop)]
 pub struct Bag {
-    pub(crate) bytes: [u8; ROOM],
-    // How long each message is, and where the last one ends.
+    bytes: Vec<u8>,
+    // How long each message is.
     each: usize,
-    pub(crate) used: usize,
-    ghost whole: { length bytes ≡ 37888 },
-    ghost within: { used ≤ 37888 },
 }
 
 impl Bag {
-    pub(crate) fn new() -> Bag {
-        Bag {
-            bytes: [0; ROOM],
-            each: 0,
-            used: 0,
-        }
+    pub(crate) fn new(heap: Global) -> Result<Bag, AllocError> {
+        let bytes = Vec::with_capacity(heap, ROOM)?;
+        Ok(Bag { bytes, each: 0 })
     }
 
     pub(crate) fn clear(&mut self) {
-        self.used = 0;
+        self.bytes.clear();
     }
 
-    // A message of this length stands behind the last one.
-    pub(crate) fn added(&mut self, length: usize) {
-        self.each = length;
-        self.used = self.used.wrapping_add(length).min(ROOM);
+    pub(crate) fn add(&mut self, message: &[u8]) -> Result<(), AllocError> {
+        self.each = message.len();
+        self.bytes.extend_from_slice(message)
     }
 
-    pub(crate) fn count(&self) -> usize {
-        if self.each == 0 {
-            return 0;
-        }
-        self.used / self.each
+    pub(crate) fn messages(&self) -> ChunksExact<'_, u8>
+        ensures { 0 < chunks_exact_size result }
+    {
+        self.bytes.chunks_exact(self.each.max(1))
     }
 
-    pub(crate) fn message(&self, i: usize) -> &[u8] {
-        let end = self.used;
-        let start = i.wrapping_mul(self.each).min(end);
-        let size = self.each.min(end - start);
-        &self.bytes[start..start + size]
+    // How many bytes all messages have.
+    pub(crate) fn size(&self) -> u64 {
+        self.bytes.len() as u64
     }
 
     pub(crate) fn sum(&self) -> u32 {
-        let mut sum: u32 = 0;
-        for byte in &self.bytes[0..self.used] {
-            sum = (sum ^ u32::from(*byte)).wrapping_mul(16_777_619);
-        }
-        sum
+        self.bytes.iter().fold(0, |sum, byte| {
+            (sum ^ u32::from(*byte)).wrapping_mul(16_777_619)
+        })
     }
 }

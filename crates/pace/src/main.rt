@@ -4,13 +4,13 @@
 #![tactic(auto)]
 
 mod bags;
+mod benches;
 mod histories;
 mod jobs;
 mod rounds;
-mod works;
 
 use history::{Rack, Strip};
-use jobs::{Job, Keeping, parse};
+use jobs::{Job, Keeping, NoJob};
 use rounds::{Report, run};
 use std::alloc::{AllocError, Global};
 use std::io;
@@ -24,16 +24,12 @@ fn answer(heap: Global, job: &Job) -> Result<Report, AllocError> {
 
 fn main(rt: HostRuntime) -> io::Result<()> {
     for line in rt.lines(rt.alloc()) {
-        match parse(line?.as_str()) {
-            Some(job) => {
-                let Report {
-                    answers,
-                    bytes,
-                    figures: [a, b, c, d],
-                } = answer(rt.alloc(), &job)?;
-                println!(rt; "{answers} {bytes} {a} {b} {c} {d}")?;
+        match line?.as_str().parse::<Job>() {
+            Ok(job) => {
+                let report = answer(rt.alloc(), &job)?;
+                println!(rt; "{report}")?;
             }
-            None => println!(rt; "?")?,
+            Err(NoJob) => println!(rt; "?")?,
         }
     }
     Ok(())

@@ -1,117 +1,70 @@
-ghost use Rattle.std.specs.Prelude.{◌<◌};
-
-use crate::bags::Bag;
+use crate::benches::Bench;
 use crate::histories::Made;
-use crate::jobs::{Call, Job};
-use crate::works::{ARTICLES, commit_all, offer_all, take_all};
-use action::Setup;
+use crate::jobs::{Call, Job, Messages};
 use history::History;
-use kind::OnHand;
 use std::alloc::{AllocError, Global};
-use table::Table;
+use std::fmt;
 
+#[derive(Drop)]
 pub struct Report {
-    pub answers: u64,
-    pub bytes: u32,
-    pub figures: [i64; 4],
+    answers: u64,
+    bytes: u32,
+    figures: [i64; 4],
 }
 
-// A new table of one of three sites.
-fn fresh<H: History + Made>(
-    heap: Global,
-    site: u32,
-    places: usize,
-) -> Result<Table<OnHand, H>, AllocError>
-    requires { site < 3 }
-{
-    let setup = match Setup::new(1, 3, site, u32::from(ARTICLES)) {
-        Ok(setup) => setup,
-        Err(_) => unreachable(),
-    };
-    Ok(Table::new(setup, H::made(heap, places)?))
-}
-
-// Which site's table a round is about: messages go from site 0 to site 1.
-fn site(call: Call) -> u32
-    ensures { result < 3 }
-{
-    match call {
-        Call::Take { .. } => 1,
-        _ => 0,
-    }
-}
-
-// Does each round begin with a new table?
-fn renews(call: Call) -> bool {
-    match call {
-        Call::New => true,
-        Call::Commit(_) => true,
-        Call::Offer => false,
-        Call::Take { again, .. } => !again,
+impl fmt::Display for Report {
+    fn fmt<W: fmt::Write>(&self, f: &mut fmt::Formatter<W>) -> fmt::Result {
+        let Report {
+            answers,
+            bytes,
+            figures: [a, b, c, d],
+        } = self;
+        write!(f, "{answers} {bytes} {a} {b} {c} {d}")
     }
 }
 
 // What has to be there before the first round: a full table to offer, or messages to take.
-fn prepare<H: History + Made + Drop>(
-    heap: Global,
-    job: &Job,
-    table: &mut Table<OnHand, H>,
-    bag: &mut Bag,
-) -> Result<(), AllocError> {
+fn prepared<H: History + Made + Drop>(heap: Global, job: &Job) -> Result<Bench<H>, AllocError> {
+    let mut bench: Bench<H> = Bench::new(heap, job.places)?;
     match job.call {
+        Call::New | Call::Commit1 | Call::Commit16 => {}
         Call::Offer => {
-            commit_all(table, job.places, 1, bag);
+            bench.commit_all(1)?;
         }
-        Call::Take { by_offers, .. } => {
-            let mut sender: Table<OnHand, H> = fresh(heap, 0, job.places)?;
-            commit_all(&mut sender, job.places, 1, bag);
-            if by_offers {
-                offer_all(&sender, bag);
+        Call::Take(messages, _) => {
+            bench.commit_all(1)?;
+            if let Messages::Offers = messages {
+                bench.offer_all()?;
             }
+            bench.hand_over()?;
         }
-        _ => {}
     }
-    Ok(())
+    Ok(bench)
 }
 
-fn work<H: History>(job: &Job, table: &mut Table<OnHand, H>, bag: &mut Bag) -> u64 {
-    match job.call {
-        Call::New => 0,
-        Call::Commit(writes) => commit_all(table, job.places, writes, bag),
-        Call::Offer => offer_all(table, bag),
-        Call::Take { .. } => take_all(table, bag),
-    }
-}
-
-fn figure<H: History>(table: &Table<OnHand, H>, article: u8) -> i64 {
-    match table.figure(article) {
-        Ok(figure) => figure,
-        Err(_) => 0,
+fn work<H: History>(bench: &mut Bench<H>, call: Call) -> Result<u64, AllocError> {
+    match call {
+        Call::New => Ok(0),
+        Call::Commit1 => bench.commit_all(1),
+        Call::Commit16 => bench.commit_all(16),
+        Call::Offer => bench.offer_all(),
+        Call::Take(..) => Ok(bench.take_all()),
     }
 }
 
 // Does the work once, and then as often as there are rounds.
 pub(crate) fn run<H: History + Made + Drop>(heap: Global, job: &Job) -> Result<Report, AllocError> {
-    let site = site(job.call);
-    let mut bag = Bag::new();
-    let mut table: Table<OnHand, H> = fresh(heap, site, job.places)?;
-    prepare(heap, job, &mut table, &mut bag)?;
-    let mut answers = work(job, &mut table, &mut bag);
+    let mut bench: Bench<H> = prepared(heap, job)?;
+    let mut answers = work(&mut bench, job.call)?;
     for _ in 0..job.rounds {
-        if renews(job.call) {
-            table = fresh(heap, site, job.places)?;
+        if job.call.renews() {
+            bench.renew()?;
         }
-        answers = answers.wrapping_add(work(job, &mut table, &mut bag));
+        answers = answers.wrapping_add(work(&mut bench, job.call)?);
     }
-    let figures = [
-        figure(&table, 0),
-        figure(&table, 1),
-        figure(&table, 2),
-        figure(&table, 3),
-    ];
     Ok(Report {
         answers,
-        bytes: bag.sum(),
-        figures,
+        bytes: bench.bag.sum(),
+        figures: [0, 1, 2, 3].map(|article| bench.table.figure(article).unwrap_or(0)),
     })
 }

@@ -5,10 +5,10 @@
 ghost use Rattle.std.specs.Prelude.{◌≤◌, length, IfOk};
 
 use action::Setup;
-use history::*;
-use kind::*;
+use history::{History, Rack, Strip};
+use kind::OnHand;
 use std::io;
-use table::*;
+use table::{Table, TableFault};
 
 // Posts a movement on article 0, and answers how many bytes of the buffer its message takes.
 fn post<H: History>(
@@ -20,17 +20,17 @@ fn post<H: History>(
 {
     let ticket = table.open()?;
     // Operation 1 adds. What is refused hands the ticket back.
-    let done = match table.write(&ticket, 0, 1, amount) {
+    let posted = match table.write(&ticket, 0, 1, amount) {
         Ok(_) => table.commit(ticket, buffer),
         Err(fault) => Err((fault, ticket)),
     };
-    match done {
+    match posted {
         Ok((_, length)) => Ok(length),
         // A ticket cannot be let go. It is the table's own, so abandoning is proved not to be refused.
-        Err((fault, ticket)) => match table.abandon(ticket) {
-            Ok(()) => Err(fault),
-            Err(_) => unreachable(),
-        },
+        Err((fault, ticket)) => {
+            table.abandon(ticket).unwrap();
+            Err(fault)
+        }
     }
 }
 
@@ -41,7 +41,7 @@ fn repeated_job(
 ) -> Result<[(usize, i64); 2], TableFault> {
     let mut buffer = [0; 64];
     let length = post(site_0, 1200, &mut buffer)?;
-    let message = &buffer[0..length];
+    let message = &buffer[..length];
     let once = (site_1.take(message)?, site_1.figure(0)?);
     let again = (site_1.take(message)?, site_1.figure(0)?);
     Ok([once, again])
@@ -50,12 +50,8 @@ fn repeated_job(
 fn main(rt: HostRuntime) -> io::Result<()> {
     let heap = rt.alloc();
     // Group 1 has two sites; these are sites 0 and 1, with one article. Both set-ups are lawful.
-    let Ok(setup_0) = Setup::new(1, 2, 0, 1) else {
-        unreachable()
-    };
-    let Ok(setup_1) = Setup::new(1, 2, 1, 1) else {
-        unreachable()
-    };
+    let setup_0 = Setup::new(1, 2, 0, 1).unwrap();
+    let setup_1 = Setup::new(1, 2, 1, 1).unwrap();
     // Each history has 64 places. One of a strip takes 16 bytes.
     let mut site_0 = Table::new(setup_0, Rack::new(heap, 64)?);
     let mut site_1 = Table::new(setup_1, Strip::new(vec![in heap; 0; 1024]?));

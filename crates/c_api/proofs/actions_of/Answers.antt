@@ -5,15 +5,15 @@ use Rattle.c_api.proofs.actions_of.Goals as goal
 
 pub overflow_cast-result : goal.overflow_cast-result
 overflow_cast-result g c =
-    let told = c.in-Ok.ensures.accepted in
+    let told = c.in_ok-actions.ensures.accepted in
     record { sfits = omega (arith, told.3, few_actions g.K.Kind.means c.args.setup told.0 told.1) }
 
-pub returns-in-Ok : goal.returns-in-Ok
-returns-in-Ok g c =
-    let told = c.in-Ok.ensures.accepted in
+pub returns : goal.returns
+returns g c =
+    let told = c.in_ok-actions.ensures.accepted in
     record {
-      answer = Ok c.in-Ok.actions;
+      answer = Ok c.in_ok-actions.actions;
       accepted = told;
-      refused = c.in-Ok.ensures.refused;
-      is = to_z_pos w64 c.in-Ok.actions (omega (arith, told.3, few_actions g.K.Kind.means c.args.setup told.0 told.1));
+      refused = c.in_ok-actions.ensures.refused;
+      is = to_z_pos w64 c.in_ok-actions.actions (omega (arith, told.3, few_actions g.K.Kind.means c.args.setup told.0 told.1));
     }

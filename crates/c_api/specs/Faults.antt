@@ -1,0 +1,14 @@
+-- Why the call for C counts no actions, by number. Assumes nothing.
+use Rattle.std.specs.Prelude.{ℕ, ℤ, pos, neg_ℤ, Ok, Err, Result}
+use Rattle.c_api.specs.declared.faults.CallFault.{CallFault}
+use Rattle.c_api.specs.declared.faults.CallFault.TheVariants.{NoTable, InReader}
+use Rattle.message.specs.Faults.{shown}
+
+abbrev pub number : CallFault → ℕ
+number NoTable = 1
+number (InReader e) = (shown e).number
+
+-- a count of actions, or minus the number of what is at fault
+abbrev pub as_answer : Result ℤ CallFault → ℤ
+as_answer (Ok n) = n
+as_answer (Err e) = neg_ℤ (pos (number e))

@@ -1,0 +1,125 @@
+ghost use Rattle.std.specs.Prelude.{◌<◌};
+
+use crate::bags::Bag;
+use crate::histories::Made;
+use action::Setup;
+use history::History;
+use kind::OnHand;
+use std::alloc::{AllocError, Global};
+use std::ops::Range;
+use table::Table;
+
+// The operation that adds an amount.
+const ADD: u8 = 1;
+
+// How many articles there are.
+const ARTICLES: u8 = 4;
+
+// Messages go from one site to another.
+const SENDER: u8 = 0;
+
+const RECEIVER: u8 = 1;
+
+// As long as the longest message, an offer of 256 actions.
+const LONGEST: usize = 4137;
+
+// A table with the messages that it wrote, or that it takes.
+#[derive(Drop)]
+pub struct Bench<H> {
+    heap: Global,
+    places: usize,
+    setup: Setup,
+    pub(crate) table: Table<OnHand, H>,
+    pub(crate) bag: Bag,
+    // Where a message is written.
+    buffer: [u8; LONGEST],
+}
+
+// The set-up of one of three sites.
+fn setup_of(site: u8) -> Setup
+    requires { site < 3 }
+{
+    Setup::new(1, 3, u32::from(site), u32::from(ARTICLES)).unwrap()
+}
+
+impl<H: History + Made + Drop> Bench<H> {
+    // An empty table of the sender, and no messages.
+    pub(crate) fn new(heap: Global, places: usize) -> Result<Bench<H>, AllocError> {
+        let setup = setup_of(SENDER);
+        Ok(Bench {
+            heap,
+            places,
+            setup,
+            table: Table::new(setup, H::made(heap, places)?),
+            bag: Bag::new(heap)?,
+            buffer: [0; LONGEST],
+        })
+    }
+
+    // An empty table in place of the one that is here.
+    pub(crate) fn renew(&mut self) -> Result<(), AllocError> {
+        let history = H::made(self.heap, self.places)?;
+        self.table = Table::new(self.setup, history);
+        Ok(())
+    }
+
+    // An empty table of the receiver. The messages stay.
+    pub(crate) fn hand_over(&mut self) -> Result<(), AllocError> {
+        self.setup = setup_of(RECEIVER);
+        self.renew()
+    }
+}
+
+// The calls, each over all of a table or of the messages. What is refused adds nothing.
+impl<H: History> Bench<H> {
+    // Posts a transaction of the actions of these numbers.
+    fn post(&mut self, numbers: Range<usize>) -> Result<(), AllocError> {
+        let Ok(ticket) = self.table.open() else {
+            return Ok(());
+        };
+        for number in numbers {
+            let article = (number % 4) as u8;
+            let amount = (number % 1000) as i32 - 500;
+            // Granted or refused, the ticket stays the table's.
+            let _ = self.table.write(&ticket, article, ADD, amount);
+        }
+        let length = match self.table.commit(ticket, &mut self.buffer) {
+            Ok((_, length)) => length,
+            Err((_, ticket)) => {
+                self.table.abandon(ticket).unwrap();
+                0
+            }
+        };
+        self.bag.add(&self.buffer[..length])
+    }
+
+    // Fills the table by transactions of so many writes, and answers how many bytes their messages have.
+    pub(crate) fn commit_all(&mut self, writes: usize) -> Result<u64, AllocError>
+        requires { 0 < writes }
+    {
+        self.bag.clear();
+        for i in 0..self.places / writes {
+            self.post(i * writes..(i + 1) * writes)?;
+        }
+        Ok(self.bag.size())
+    }
+
+    // Offers every article to the receiver, and answers how many bytes the offers have.
+    pub(crate) fn offer_all(&mut self) -> Result<u64, AllocError> {
+        self.bag.clear();
+        for article in 0..ARTICLES {
+            let offered = self.table.offer(RECEIVER, article, &mut self.buffer);
+            self.bag.add(&self.buffer[..offered.unwrap_or(0)])?;
+        }
+        Ok(self.bag.size())
+    }
+
+    // Takes every message, and answers how many actions were new.
+    pub(crate) fn take_all(&mut self) -> u64 {
+        let mut sum: u64 = 0;
+        for message in self.bag.messages() {
+            sum = sum.wrapping_add(self.table.take(message).unwrap_or(0) as u64);
+        }
+        sum
+    }
+}
