@@ -1,3 +1,4 @@
 pub mod Changes
 pub mod Faults
 pub mod Strips
+pub mod Walks

@@ -3,10 +3,14 @@
 
 mod faults;
 mod interface;
+mod listing;
 mod racks;
 mod strips;
+mod walks;
 
 pub use faults::HistoryFault;
 pub use interface::History;
+pub use listing::actions;
 pub use racks::Rack;
 pub use strips::Strip;
+pub use walks::Actions;

@@ -1,0 +1,8 @@
+-- What a walk over a history's actions has left. Assumes nothing.
+use Rattle.std.specs.Prelude.{List, drop}
+use Rattle.action.specs.declared.orders.Action.{Action}
+use Rattle.history.specs.declared.walks.Actions.{Actions}
+
+-- the items from the walk's place on
+abbrev pub left : {H : Type 0} → (H → List Action) → Actions H → List Action
+left items walk = drop walk.place (items walk.history.now)
