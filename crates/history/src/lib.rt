@@ -1,6 +1,7 @@
 // Histories: the actions that a table keeps, behind one interface with two ways to keep them.
 #![tactic(auto)]
 
+mod eithers;
 mod faults;
 mod interface;
 mod listing;
