@@ -192,7 +192,7 @@ impl Book {
     // How many actions the site's history has.
     pub(crate) fn kept(&self, site: u8) -> usize {
         let archived = self.page(site).map_or(0, |page| page.archived);
-        self.reached(site).wrapping_sub(archived)
+        self.reached(site).saturating_sub(archived)
     }
 
     // Has anything been committed on the article?

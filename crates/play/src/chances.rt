@@ -1,5 +1,5 @@
 // Chance by seed: the same seed gives the same run on every machine.
-ghost use Rattle.std.specs.Prelude.{◌≤◌};
+ghost use Rattle.std.specs.Prelude.{◌-◌, ◌≤◌};
 
 // A xorshift generator of 64 bits. Its state is never 0.
 #[derive(Clone, Copy)]
@@ -30,7 +30,7 @@ impl Dice {
 
     // A number below `n`; 0 where there is none.
     pub(crate) fn below(&mut self, n: u32) -> u32
-        ensures { result ≤ n }
+        ensures { result ≤ n - 1 }
     {
         if n == 0 {
             return 0;
@@ -39,7 +39,9 @@ impl Dice {
     }
 
     // The same, of one byte.
-    pub(crate) fn byte(&mut self, n: u8) -> u8 {
+    pub(crate) fn byte(&mut self, n: u8) -> u8
+        ensures { result ≤ n - 1 }
+    {
         self.below(u32::from(n)) as u8
     }
 

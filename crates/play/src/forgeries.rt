@@ -1,6 +1,8 @@
 // Bytes that no table wrote: a damaged copy of a message, or noise. Every table has to refuse them, and the
 // damage says by which number. Nothing is forged that a table could believe, such as a peer's interval that
 // goes further than the peer.
+ghost use Rattle.std.specs.Prelude.{◌≤◌, IfSome};
+
 use crate::chances::Dice;
 use crate::dues::Due;
 use crate::runs::Run;
@@ -31,7 +33,7 @@ fn patch(bytes: &mut [u8], at: usize, byte: u8) {
 // Makes another byte of the one at the place.
 fn change(bytes: &mut [u8], dice: &mut Dice, at: usize) {
     let old = byte_at(bytes, at);
-    patch(bytes, at, old ^ dice.byte(255).wrapping_add(1));
+    patch(bytes, at, old ^ (dice.byte(255) + 1));
 }
 
 // Writes a time at a place.
@@ -60,7 +62,7 @@ fn cut(copy: &mut Vec<u8>, dice: &mut Dice) -> Due {
 
 // The message with bytes after its end.
 fn append(copy: &mut Vec<u8>, dice: &mut Dice) -> Result<Due, AllocError> {
-    let more = dice.byte(20).wrapping_add(1);
+    let more = dice.byte(20) + 1;
     copy.resize(copy.len().wrapping_add(more as usize), 0)?;
     Ok(Due::Trailing)
 }
@@ -83,7 +85,7 @@ fn spoil_header(copy: &mut [u8], dice: &mut Dice, sites: u8) -> Due {
         _ => {
             let sections = match dice.byte(200) {
                 0 => 0,
-                more => more.wrapping_add(16),
+                more => more + 16,
             };
             patch(copy, 5, sections);
             Due::Broken
@@ -112,7 +114,9 @@ fn spoil_section(copy: &mut [u8], dice: &mut Dice, sites: u8, articles: u8) -> D
 }
 
 // Where the first section's first action stands; `None` where it has none.
-fn first_action(copy: &[u8]) -> Option<usize> {
+fn first_action(copy: &[u8]) -> Option<usize>
+    ensures { IfSome result (λ at. at ≤ 2561) }
+{
     let intervals = byte_at(copy, HEAD + 2);
     let at = FIRST + INTERVAL * intervals as usize;
     (byte_at(copy, at) == b'A').then_some(at)
@@ -124,10 +128,10 @@ fn spoil_action(copy: &mut Vec<u8>, dice: &mut Dice) -> Due {
         return cut(copy, dice);
     };
     match dice.byte(4) {
-        0 => patch_time(copy, at.wrapping_add(2), 0),
-        1 => patch_time(copy, at.wrapping_add(6), 0),
-        2 => change(copy, dice, at.wrapping_add(10)),
-        _ => patch(copy, at.wrapping_add(11), 0),
+        0 => patch_time(copy, at + 2, 0),
+        1 => patch_time(copy, at + 6, 0),
+        2 => change(copy, dice, at + 10),
+        _ => patch(copy, at + 11, 0),
     }
     Due::Broken
 }

@@ -29,7 +29,7 @@ impl<K: Kind + Drop, J: Kind + Drop> Run<K, J> {
     fn move_at(&mut self, site: u8, article: u8) -> Result<(), Stop> {
         self.open_line(site)?;
         let most = if self.dice.chance(5) { 20 } else { 3 };
-        for _ in 0..self.dice.byte(most).wrapping_add(1) {
+        for _ in 0..self.dice.byte(most) + 1 {
             let movement = self.pick_movement();
             self.write_line(
                 site,

@@ -117,7 +117,7 @@ fn read_wish(rt: &HostRuntime) -> io::Result<Wish> {
 
 fn main(rt: HostRuntime) -> Result<(), Stop> {
     let wish = read_wish(&rt)?;
-    let mut counts = Counts::new();
+    let mut counts = Counts::default();
     let outcome = play_all(rt.alloc(), &mut counts, wish);
     let printed = print_outcome(&rt, &counts, wish, outcome.is_ok());
     outcome?;

@@ -49,13 +49,13 @@ fn make_seat<K: Kind + Drop>(
 // Two or three sites in half of the runs, since with them more is levelled and archived.
 fn pick_sites(dice: &mut Dice) -> u8 {
     let more = if dice.chance(50) { 2 } else { 7 };
-    dice.byte(more).wrapping_add(2)
+    dice.byte(more) + 2
 }
 
 // A few articles, or up to 64.
 fn pick_articles(dice: &mut Dice) -> u8 {
     let most = if dice.chance(10) { 64 } else { 4 };
-    dice.byte(most).wrapping_add(1)
+    dice.byte(most) + 1
 }
 
 // What is unlike the group in the table that stands outside it.
@@ -75,9 +75,9 @@ pub(crate) fn make_run<K: Kind + Drop, J: Kind + Drop>(
     counts: Counts,
 ) -> Result<Run<K, J>, Stop> {
     let mut dice = Dice::new(seed);
-    let group = dice.below(65_534).wrapping_add(1);
+    let group = dice.below(65_534) + 1;
     let other = match stranger {
-        Stranger::OtherGroup => group.wrapping_add(1),
+        Stranger::OtherGroup => group + 1,
         Stranger::OtherKind | Stranger::Twin => group,
     };
     let setup = Setup::new(other, 2, dice.below(2), 1)?;

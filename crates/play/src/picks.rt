@@ -32,7 +32,7 @@ fn pick_amount(dice: &mut Dice) -> i32 {
     match dice.byte(6) {
         0 => up_to(dice, 99_999_999),
         1 => up_to(dice, 1_000_000),
-        2 => 1i32.wrapping_shl(dice.below(31)),
+        2 => 1 << dice.below(31),
         3 => dice.any(),
         _ => up_to(dice, 1_000).wrapping_sub(500),
     }

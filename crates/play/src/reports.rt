@@ -52,7 +52,7 @@ pub(crate) struct Broken {
     pub(crate) site: u8,
 }
 
-#[derive(Clone, Copy)]
+#[derive(Clone, Copy, Default)]
 pub(crate) struct Counts {
     run: u32,
     // The number of the line within its run.
@@ -77,24 +77,6 @@ pub(crate) fn up(count: &mut u64, by: usize) {
 }
 
 impl Counts {
-    pub(crate) fn new() -> Counts {
-        Counts {
-            run: 0,
-            line: 0,
-            lines: 0,
-            granted: 0,
-            refused: [0; 19],
-            committed: 0,
-            taken: 0,
-            archived: 0,
-            figures: 0,
-            levels: 0,
-            moved_levels: 0,
-            repeats: 0,
-            broken: None,
-        }
-    }
-
     pub(crate) fn begin(&mut self, run: u32) {
         self.run = run;
         self.line = 0;

@@ -61,7 +61,7 @@ impl<K: Kind + Drop, J: Kind + Drop> Run<K, J> {
     // How many places the site's history has free.
     pub(crate) fn free(&self, site: u8) -> usize {
         let places = self.seat(site).map_or(0, |seat| seat.places);
-        places.wrapping_sub(self.book.kept(site))
+        places.saturating_sub(self.book.kept(site))
     }
 
     pub(crate) fn clock(&self, site: u8) -> u32 {
