@@ -1,4 +1,5 @@
 // Chance by seed: the same seed gives the same run on every machine.
+ghost use Rattle.std.specs.Prelude.{◌-◌, ◌≤◌};
 
 // A xorshift generator of 64 bits. Its state is never 0.
 #[derive(Clone, Copy)]
@@ -28,7 +29,9 @@ impl Dice {
     }
 
     // A number below `n`; 0 where there is none.
-    pub(crate) fn below(&mut self, n: u32) -> u32 {
+    pub(crate) fn below(&mut self, n: u32) -> u32
+        ensures { result ≤ n - 1 }
+    {
         if n == 0 {
             return 0;
         }
@@ -36,11 +39,10 @@ impl Dice {
     }
 
     // The same, of one byte.
-    pub(crate) fn byte(&mut self, n: u8) -> u8 {
-        if n == 0 {
-            return 0;
-        }
-        ((self.next() >> 32) % u64::from(n)) as u8
+    pub(crate) fn byte(&mut self, n: u8) -> u8
+        ensures { result ≤ n - 1 }
+    {
+        self.below(u32::from(n)) as u8
     }
 
     pub(crate) fn chance(&mut self, percent: u32) -> bool {

@@ -1,85 +1,75 @@
 // The laws of whole runs, held against the book.
-use crate::reports::{Counts, Law, up};
+use crate::reports::{Law, up};
 use crate::runs::Run;
 use kind::Kind;
 
-// Is the site's reception vector of the article as the book has it?
-fn has_vector<K: Kind>(run: &Run<K>, site: u8, article: u8) -> bool {
-    for q in 0..run.sites {
-        if run.known(site, article, site, q) != run.book.reach(site, article, q) {
-            return false;
+impl<K: Kind + Drop, J: Kind + Drop> Run<K, J> {
+    // Is the site's reception vector of the article as the book has it?
+    fn has_vector(&self, site: u8, article: u8) -> bool {
+        (0..self.sites).all(|q| self.known(site, article, site, q)
+            == self.book.reach(site, article, q))
+    }
+
+    // Does the site's table say of `z` no more than `z` has?
+    fn is_modest_about(&self, site: u8, article: u8, z: u8) -> bool {
+        (0..self.sites).all(|q| self.known(site, article, z, q) <= self.book.reach(z, article, q))
+    }
+
+    // Law a at one site, for all articles: each committed action that the site has is counted once.
+    pub(crate) fn check_site(&mut self, site: u8) {
+        let is_on_time = self.clock(site) == self.book.greatest(site);
+        self.counts.hold(Law::Clock, site, is_on_time);
+        let figures = self.book.work::<K>(site);
+        for (article, figure) in (0..self.articles).zip(figures) {
+            self.check_article(site, article, figure);
         }
     }
-    true
-}
 
-// Does the site's table say of no site more than that site has?
-fn is_modest<K: Kind>(run: &Run<K>, site: u8, article: u8) -> bool {
-    for z in 0..run.sites {
-        for q in 0..run.sites {
-            if run.known(site, article, z, q) > run.book.reach(z, article, q) {
-                return false;
-            }
+    // Law a for one article, whose figure the book has.
+    fn check_article(&mut self, site: u8, article: u8, figure: i64) {
+        let is_figure = self.figure(site, article) == figure;
+        self.counts.hold(Law::Figure, site, is_figure);
+        let is_vector = self.has_vector(site, article);
+        self.counts.hold(Law::Vector, site, is_vector);
+        let is_modest = (0..self.sites).all(|z| self.is_modest_about(site, article, z));
+        self.counts.hold(Law::Belief, site, is_modest);
+        up(&mut self.counts.figures, 1);
+    }
+
+    // Has the site an open item for the article?
+    fn is_open_at(&self, site: u8, article: u8) -> bool {
+        (0..self.sites).any(|peer| self.open_item(site, article, peer))
+    }
+
+    // Do two sites show the same figure and the same reception vector of the article?
+    fn is_alike(&self, one: u8, other: u8, article: u8) -> bool {
+        self.figure(one, article) == self.figure(other, article)
+            && (0..self.sites).all(|q| self.known(one, article, one, q)
+                == self.known(other, article, other, q))
+    }
+
+    // Law b: where nothing is open all sites are level.
+    fn check_levels(&mut self, article: u8) {
+        if (0..self.sites).any(|site| self.is_open_at(site, article)) {
+            return;
+        }
+        up(&mut self.counts.levels, 1);
+        if self.book.has_moved(article) {
+            up(&mut self.counts.moved_levels, 1);
+        }
+        for site in 0..self.sites {
+            let is_level = self.is_alike(0, site, article);
+            self.counts.hold(Law::Level, site, is_level);
         }
     }
-    true
-}
 
-// Law a at one site, for all articles: each committed action that the site has is counted once.
-pub(crate) fn check_site<K: Kind>(run: &Run<K>, counts: &mut Counts, site: u8) {
-    counts.hold(Law::Clock, site, run.clock(site) == run.book.greatest(site));
-    let mut figures = [0; 64];
-    run.book.work::<K>(site, &mut figures);
-    for article in 0..run.articles {
-        let figure = figures.get(article as usize).copied().unwrap_or(0);
-        counts.hold(Law::Figure, site, run.figure(site, article) == figure);
-        counts.hold(Law::Vector, site, has_vector(run, site, article));
-        counts.hold(Law::Belief, site, is_modest(run, site, article));
-        up(&mut counts.figures, 1);
-    }
-}
-
-// Has no site an open item for the article?
-fn is_nothing_open<K: Kind>(run: &Run<K>, article: u8) -> bool {
-    for site in 0..run.sites {
-        for peer in 0..run.sites {
-            if run.open_item(site, article, peer) {
-                return false;
-            }
+    // Law a at all sites, and law b.
+    pub(crate) fn check_all(&mut self) {
+        for site in 0..self.sites {
+            self.check_site(site);
+        }
+        for article in 0..self.articles {
+            self.check_levels(article);
         }
     }
-    true
-}
-
-// Do two sites show the same figure and the same reception vector of the article?
-fn is_alike<K: Kind>(run: &Run<K>, one: u8, other: u8, article: u8) -> bool {
-    for q in 0..run.sites {
-        if run.known(one, article, one, q) != run.known(other, article, other, q) {
-            return false;
-        }
-    }
-    run.figure(one, article) == run.figure(other, article)
-}
-
-// Law b: where nothing is open all sites are level.
-fn check_levels<K: Kind>(run: &Run<K>, counts: &mut Counts) {
-    for article in 0..run.articles {
-        if is_nothing_open(run, article) {
-            up(&mut counts.levels, 1);
-            if run.book.has_moved(article) {
-                up(&mut counts.moved_levels, 1);
-            }
-            for site in 0..run.sites {
-                counts.hold(Law::Level, site, is_alike(run, 0, site, article));
-            }
-        }
-    }
-}
-
-// Laws a and b at all sites.
-pub(crate) fn check_all<K: Kind>(run: &Run<K>, counts: &mut Counts) {
-    for site in 0..run.sites {
-        check_site(run, counts, site);
-    }
-    check_levels(run, counts);
 }

@@ -1,337 +1,226 @@
 // The lines of a run. Each makes one call at one site, enters it into the book, and holds the answer and
 // what the table shows after it to the rules.
-use crate::calls::{
-    Did, abandon_with, archive_at, commit_with, offer_into, open_with, take_from, write_with,
-};
-use crate::forgeries::forge;
-use crate::laws::check_site;
-use crate::picks::Movement;
-use crate::reports::{Counts, Law, up};
-use crate::runs::{Run, holds};
-use crate::slots::SLOT_BYTES;
+use crate::dues::Due;
+use crate::reports::{Law, up};
+use crate::runs::Run;
+use crate::slots::{SLOT_BYTES, Space};
 use crate::stops::Stop;
-use crate::walks::stretches;
-use action::MOST_WRITES;
+use crate::walks::{Stretch, stretches};
 use kind::Kind;
-use table::Ticket;
+use std::alloc::AllocError;
+use table::TableFault;
 
-// Ends a line: it has to be granted, for `due` 0, or refused by that number, and what the table shows
-// may have changed only where `changes` says so.
-fn end<K: Kind>(
-    run: &mut Run<K>,
-    counts: &mut Counts,
+// A line that has begun.
+#[derive(Drop)]
+pub(crate) struct Line {
     site: u8,
-    did: Did,
-    due: u8,
-    changes: bool,
-) -> Result<(), Stop> {
-    counts.note_line(did.number());
-    counts.hold(Law::Refusal, site, did.number() == due);
-    let is_same = run.is_same(site)?;
-    counts.hold(Law::Still, site, is_same || changes);
-    check_site(run, counts, site);
-    Ok(())
+    // What the call has to be refused by.
+    due: Option<Due>,
+    // What the site's table showed before the call.
+    shown: Vec<i64>,
 }
 
-pub(crate) fn open_line<K: Kind>(
-    run: &mut Run<K>,
-    hands: &mut [Option<Ticket>],
-    counts: &mut Counts,
-    site: u8,
-) -> Result<(), Stop> {
-    let due = if holds(hands, site) { 2 } else { 0 };
-    run.look(site)?;
-    let Some(table) = run.tables.get_mut(site as usize) else {
-        return Ok(());
-    };
-    let Some(hand) = hands.get_mut(site as usize) else {
-        return Ok(());
-    };
-    let did = open_with(table, hand)?;
-    end(run, counts, site, did, due, false)
-}
-
-// What a write by the ticket in hand `by` has to be refused by, or 0.
-fn due_of_write<K: Kind>(run: &Run<K>, site: u8, by: u8, movement: Movement) -> u8 {
-    if by != site {
-        3
-    } else if movement.article >= run.articles {
-        4
-    } else if !K::is_known(movement.operation, movement.amount) {
-        6
-    } else if run.book.writes(site) >= MOST_WRITES {
-        7
-    } else {
-        0
+impl<K: Kind + Drop, J: Kind + Drop> Run<K, J> {
+    pub(crate) fn begin(&self, site: u8, due: Option<Due>) -> Result<Line, AllocError> {
+        let shown = self.shown(site)?;
+        Ok(Line { site, due, shown })
     }
-}
 
-pub(crate) fn write_line<K: Kind>(
-    run: &mut Run<K>,
-    hands: &[Option<Ticket>],
-    counts: &mut Counts,
-    site: u8,
-    by: u8,
-    movement: Movement,
-) -> Result<(), Stop> {
-    let due = due_of_write(run, site, by, movement);
-    run.look(site)?;
-    let Some(table) = run.tables.get_mut(site as usize) else {
-        return Ok(());
-    };
-    let Some(hand) = hands.get(by as usize) else {
-        return Ok(());
-    };
-    let Movement {
-        article,
-        operation,
-        amount,
-    } = movement;
-    let Some(did) = write_with(table, hand, article, operation, amount) else {
-        return Ok(());
-    };
-    if let Did::Granted(time) = did {
-        let booked = run.book.write(site, article, operation, amount)?;
-        counts.hold(Law::Answer, site, time == booked as usize);
+    // Does the table show what it showed before the call?
+    fn is_same(&self, line: &Line) -> Result<bool, AllocError> {
+        Ok(self.shown(line.site)? == line.shown)
     }
-    end(run, counts, site, did, due, false)
-}
 
-// The commit of a site's transaction is entered; it answered how many actions it had.
-fn enter_commit<K: Kind>(
-    run: &mut Run<K>,
-    counts: &mut Counts,
-    site: u8,
-    count: usize,
-) -> Result<(), Stop> {
-    counts.hold(Law::Answer, site, count == run.book.writes(site));
-    let are_new = run.book.commit(site)?;
-    counts.hold(Law::Distinct, site, are_new);
-    up(&mut counts.committed, count);
-    Ok(())
-}
-
-pub(crate) fn commit_line<K: Kind>(
-    run: &mut Run<K>,
-    hands: &mut [Option<Ticket>],
-    counts: &mut Counts,
-    site: u8,
-    by: u8,
-    slot: u8,
-    most: usize,
-) -> Result<(), Stop> {
-    let due = if by != site {
-        3
-    } else if run.book.writes(site) > run.free(site) {
-        16
-    } else {
-        0
-    };
-    run.look(site)?;
-    let Some(table) = run.tables.get_mut(site as usize) else {
-        return Ok(());
-    };
-    let Some(hand) = hands.get_mut(by as usize) else {
-        return Ok(());
-    };
-    let Some(slot) = run.slots.get_mut(slot as usize) else {
-        return Ok(());
-    };
-    let Some(did) = commit_with(table, hand, slot, most)? else {
-        return Ok(());
-    };
-    if let Did::Granted(count) = did {
-        enter_commit(run, counts, site, count)?;
+    // Ends a line: it has to be granted, or refused as it is due, and what the table shows may have
+    // changed only where `changes` says so.
+    pub(crate) fn end(
+        &mut self,
+        line: Line,
+        fault: Option<TableFault>,
+        changes: bool,
+    ) -> Result<(), AllocError> {
+        let site = line.site;
+        let refused = fault.map(|fault| fault.refusal().number);
+        let due = line.due.map(|due| due as u8);
+        self.counts.note_line(refused);
+        self.counts.hold(Law::Refusal, site, refused == due);
+        let is_same = self.is_same(&line)?;
+        self.counts.hold(Law::Still, site, is_same || changes);
+        self.check_site(site);
+        Ok(())
     }
-    end(run, counts, site, did, due, did.number() == 0)
-}
 
-pub(crate) fn abandon_line<K: Kind>(
-    run: &mut Run<K>,
-    hands: &mut [Option<Ticket>],
-    counts: &mut Counts,
-    site: u8,
-    by: u8,
-) -> Result<(), Stop> {
-    let due = if by != site { 3 } else { 0 };
-    run.look(site)?;
-    let Some(table) = run.tables.get_mut(site as usize) else {
-        return Ok(());
-    };
-    let Some(hand) = hands.get_mut(by as usize) else {
-        return Ok(());
-    };
-    let Some(did) = abandon_with(table, hand)? else {
-        return Ok(());
-    };
-    if did.number() == 0 {
-        run.book.abandon(site)?;
+    // How long the offer has to be: it carries what the peer is not known to have.
+    fn offer_length(&self, site: u8, peer: u8, article: u8) -> usize {
+        let carried = self
+            .book
+            .committed
+            .values()
+            .filter(|action| {
+                action.article == article
+                    && self.book.reaches(site, action)
+                    && action.time > self.known(site, article, peer, action.coordinator)
+            })
+            .count();
+        carried
+            .wrapping_mul(16)
+            .wrapping_add(11 + 10 * self.sites as usize)
     }
-    end(run, counts, site, did, due, false)
-}
 
-// How long the offer has to be: it carries what the peer is not known to have.
-fn offer_length<K: Kind>(run: &Run<K>, site: u8, peer: u8, article: u8) -> usize {
-    let mut length = 11 + 10 * run.sites as usize;
-    for action in run.book.committed() {
-        let q = action.coordinator;
-        if action.article == article
-            && action.time <= run.book.reach(site, article, q)
-            && action.time > run.known(site, article, peer, q)
-        {
-            length = length.wrapping_add(16);
+    // Offers, and holds the message in its slot where it is granted.
+    fn offer_into(
+        &mut self,
+        site: u8,
+        peer: u8,
+        article: u8,
+        space: Space,
+    ) -> Result<Option<Result<usize, TableFault>>, AllocError> {
+        let Some(table) = self.table(site) else {
+            return Ok(None);
+        };
+        let mut buffer = [0; SLOT_BYTES];
+        let most = space.most.min(SLOT_BYTES);
+        let answer = table.offer(peer, article, &mut buffer[..most]);
+        if let Ok(length) = answer {
+            self.put(space.slot, &buffer[..length.min(most)])?;
+        }
+        Ok(Some(answer))
+    }
+
+    pub(crate) fn offer_line(
+        &mut self,
+        site: u8,
+        peer: u8,
+        article: u8,
+        space: Space,
+    ) -> Result<(), Stop> {
+        let length = self.offer_length(site, peer, article);
+        let due = if article >= self.articles {
+            Some(Due::NoArticle)
+        } else if peer >= self.sites {
+            Some(Due::NoSite)
+        } else if length > space.most.min(SLOT_BYTES) {
+            Some(Due::Short)
+        } else {
+            None
+        };
+        let line = self.begin(site, due)?;
+        let Some(answer) = self.offer_into(site, peer, article, space)? else {
+            return Ok(());
+        };
+        if let Ok(answer) = answer {
+            self.counts.hold(Law::Answer, site, answer == length);
+        }
+        self.end(line, answer.err(), false)?;
+        Ok(())
+    }
+
+    // What a take of a message of these intervals, and so much news, has to be refused by.
+    fn due_of_take(&self, site: u8, told: &[Stretch], news: usize) -> Option<Due> {
+        if self.holds(site) {
+            Some(Due::AlreadyOpen)
+        } else if told.is_empty() {
+            Some(Due::Cut)
+        } else if self.book.is_behind(site, told) {
+            Some(Due::Behind)
+        } else if news > self.free(site) {
+            Some(Due::Full)
+        } else {
+            None
         }
     }
-    length
-}
 
-pub(crate) fn offer_line<K: Kind>(
-    run: &mut Run<K>,
-    counts: &mut Counts,
-    site: u8,
-    peer: u8,
-    article: u8,
-    slot: u8,
-    most: usize,
-) -> Result<(), Stop> {
-    let length = offer_length(run, site, peer, article);
-    let due = if article >= run.articles {
-        4
-    } else if peer >= run.sites {
-        5
-    } else if length > most.min(SLOT_BYTES) {
-        15
-    } else {
-        0
-    };
-    run.look(site)?;
-    let Some(table) = run.tables.get(site as usize) else {
-        return Ok(());
-    };
-    let Some(slot) = run.slots.get_mut(slot as usize) else {
-        return Ok(());
-    };
-    let did = offer_into(table, peer, article, slot, most);
-    if let Did::Granted(answer) = did {
-        counts.hold(Law::Answer, site, answer == length);
+    // Takes the message in the slot.
+    fn take_from(&mut self, site: u8, slot: u8) -> Option<Result<usize, TableFault>> {
+        let message = self.slots.get(slot as usize)?.message();
+        let seat = self.seats.get_mut(site as usize)?;
+        Some(seat.take(message))
     }
-    end(run, counts, site, did, due, false)
-}
 
-// What a take of the message at hand has to be refused by, or 0.
-fn due_of_take<K: Kind>(run: &Run<K>, site: u8, is_open: bool, news: usize) -> u8 {
-    if is_open {
-        2
-    } else if run.stretches.is_empty() {
-        9
-    } else if run.book.is_behind(site, &run.stretches) {
-        13
-    } else if news > run.free(site) {
-        16
-    } else {
-        0
+    // The take of a message is entered; it answered how many actions were new.
+    fn enter_take(&mut self, site: u8, slot: u8, told: &[Stretch], count: usize) {
+        self.book.take(site, told);
+        up(&mut self.counts.taken, count);
+        if let Some(slot) = self.slots.get_mut(slot as usize) {
+            slot.note_take(site);
+        }
     }
-}
 
-// The take of a message is entered; it answered how many actions were new.
-fn enter_take<K: Kind>(run: &mut Run<K>, counts: &mut Counts, site: u8, slot: u8, count: usize) {
-    run.book.take(site, &run.stretches);
-    up(&mut counts.taken, count);
-    if let Some(slot) = run.slots.get_mut(slot as usize) {
-        slot.take_note(site);
+    // Law c: a message that the site has taken before changes nothing there, and has nothing new.
+    fn check_repeat(
+        &mut self,
+        line: &Line,
+        answer: Result<usize, TableFault>,
+    ) -> Result<(), AllocError> {
+        up(&mut self.counts.repeats, 1);
+        let is_same = self.is_same(line)?;
+        self.counts.hold(Law::Repeat, line.site, is_same);
+        let is_nothing = answer.unwrap_or(0) == 0;
+        self.counts.hold(Law::Repeat, line.site, is_nothing);
+        Ok(())
     }
-}
 
-// Law c: a message that the site has taken before changes nothing there, and has nothing new.
-fn check_repeat<K: Kind>(
-    run: &mut Run<K>,
-    counts: &mut Counts,
-    site: u8,
-    did: Did,
-) -> Result<(), Stop> {
-    up(&mut counts.repeats, 1);
-    let is_same = run.is_same(site)?;
-    counts.hold(Law::Repeat, site, is_same);
-    if let Did::Granted(count) = did {
-        counts.hold(Law::Repeat, site, count == 0);
+    pub(crate) fn take_line(&mut self, site: u8, slot: u8) -> Result<(), Stop> {
+        let Some(held) = self.slots.get(slot as usize) else {
+            return Ok(());
+        };
+        let told = stretches(self.heap, held.message())?;
+        let is_repeat = held.was_taken(site);
+        let news = self.book.news(site, &told);
+        let line = self.begin(site, self.due_of_take(site, &told, news))?;
+        let Some(answer) = self.take_from(site, slot) else {
+            return Ok(());
+        };
+        if let Ok(count) = answer {
+            self.counts.hold(Law::Answer, site, count == news);
+            self.enter_take(site, slot, &told, count);
+        }
+        if is_repeat {
+            self.check_repeat(&line, answer)?;
+        }
+        self.end(line, answer.err(), answer.is_ok())?;
+        Ok(())
     }
-    Ok(())
-}
 
-pub(crate) fn take_line<K: Kind>(
-    run: &mut Run<K>,
-    hands: &[Option<Ticket>],
-    counts: &mut Counts,
-    site: u8,
-    slot: u8,
-) -> Result<(), Stop> {
-    run.look(site)?;
-    let Some(held) = run.slots.get(slot as usize) else {
-        return Ok(());
-    };
-    let held = *held;
-    stretches(held.message(), &mut run.stretches)?;
-    let is_repeat = held.was_taken(site);
-    let news = run.book.news(site, &run.stretches);
-    let due = due_of_take(run, site, holds(hands, site), news);
-    let Some(table) = run.tables.get_mut(site as usize) else {
-        return Ok(());
-    };
-    let did = take_from(table, &held);
-    if let Did::Granted(count) = did {
-        counts.hold(Law::Answer, site, count == news);
-        enter_take(run, counts, site, slot, count);
+    // A take of bytes that no table wrote, which has to be refused.
+    pub(crate) fn forged_line(&mut self, site: u8, slot: u8) -> Result<(), Stop> {
+        let Some(held) = self.slots.get(slot as usize) else {
+            return Ok(());
+        };
+        let mut copy = Vec::from_slice(self.heap, held.message())?;
+        let forged = self.forge(site, &mut copy)?;
+        let due = if self.holds(site) {
+            Due::AlreadyOpen
+        } else {
+            forged
+        };
+        let line = self.begin(site, Some(due))?;
+        let Some(seat) = self.seats.get_mut(site as usize) else {
+            return Ok(());
+        };
+        let answer = seat.take(&copy);
+        self.end(line, answer.err(), false)?;
+        Ok(())
     }
-    if is_repeat {
-        check_repeat(run, counts, site, did)?;
-    }
-    end(run, counts, site, did, due, did.number() == 0)
-}
 
-// A take of bytes that no table wrote, which has to be refused.
-pub(crate) fn forged_line<K: Kind>(
-    run: &mut Run<K>,
-    hands: &[Option<Ticket>],
-    counts: &mut Counts,
-    site: u8,
-    slot: u8,
-) -> Result<(), Stop> {
-    run.look(site)?;
-    let Some(held) = run.slots.get(slot as usize) else {
-        return Ok(());
-    };
-    let mut copy = *held;
-    let due = forge(run, site, &mut copy)?;
-    let due = if holds(hands, site) { 2 } else { due };
-    let Some(table) = run.tables.get_mut(site as usize) else {
-        return Ok(());
-    };
-    let did = take_from(table, &copy);
-    end(run, counts, site, did, due, false)
-}
-
-pub(crate) fn archive_line<K: Kind>(
-    run: &mut Run<K>,
-    hands: &[Option<Ticket>],
-    counts: &mut Counts,
-    site: u8,
-    article: u8,
-) -> Result<(), Stop> {
-    let due = if holds(hands, site) {
-        2
-    } else if article >= run.articles {
-        4
-    } else {
-        0
-    };
-    run.look(site)?;
-    let Some(table) = run.tables.get_mut(site as usize) else {
-        return Ok(());
-    };
-    let did = archive_at(table, article);
-    if let Did::Granted(count) = did {
-        run.book.archive(site, count);
-        up(&mut counts.archived, count);
+    pub(crate) fn archive_line(&mut self, site: u8, article: u8) -> Result<(), Stop> {
+        let due = if self.holds(site) {
+            Some(Due::AlreadyOpen)
+        } else if article >= self.articles {
+            Some(Due::NoArticle)
+        } else {
+            None
+        };
+        let line = self.begin(site, due)?;
+        let Some(seat) = self.seats.get_mut(site as usize) else {
+            return Ok(());
+        };
+        let answer = seat.archive(article);
+        if let Ok(count) = answer {
+            self.book.archive(site, count);
+            up(&mut self.counts.archived, count);
+        }
+        self.end(line, answer.err(), false)?;
+        Ok(())
     }
-    end(run, counts, site, did, due, false)
 }

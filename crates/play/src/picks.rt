@@ -1,9 +1,8 @@
 // What a line is given, by chance.
 use crate::chances::Dice;
-use crate::runs::{Run, STRANGER, holds};
-use crate::slots::SLOT_BYTES;
+use crate::runs::{Run, SLOTS, STRANGER};
+use crate::slots::{SLOT_BYTES, Space};
 use kind::Kind;
-use table::Ticket;
 
 // What is to be written: a pair, on an article.
 #[derive(Clone, Copy)]
@@ -13,23 +12,14 @@ pub(crate) struct Movement {
     pub(crate) amount: i32,
 }
 
-// An article of the group, mostly one of the first two, so that sites meet on it; now and then none.
-pub(crate) fn pick_article<K: Kind>(run: &mut Run<K>) -> u8 {
-    if run.dice.chance(4) {
-        return run.articles.wrapping_add(run.dice.byte(190));
-    }
-    if run.dice.chance(75) {
-        return run.dice.byte(run.articles.min(2));
-    }
-    run.dice.byte(run.articles)
-}
-
-// A peer; now and then none of the group.
-pub(crate) fn pick_peer<K: Kind>(run: &mut Run<K>) -> u8 {
-    if run.dice.chance(4) {
-        return run.sites.wrapping_add(run.dice.byte(200));
-    }
-    run.dice.byte(run.sites)
+// Whose ticket a line goes by.
+#[derive(Clone, Copy, PartialEq, Eq)]
+pub(crate) enum Holder {
+    Own,
+    // Another site of the group.
+    Site(u8),
+    // The table outside the group.
+    Stranger,
 }
 
 // A number from 0 to `most`.
@@ -42,7 +32,7 @@ fn pick_amount(dice: &mut Dice) -> i32 {
     match dice.byte(6) {
         0 => up_to(dice, 99_999_999),
         1 => up_to(dice, 1_000_000),
-        2 => 1i32.wrapping_shl(dice.below(31)),
+        2 => 1 << dice.below(31),
         3 => dice.any(),
         _ => up_to(dice, 1_000).wrapping_sub(500),
     }
@@ -51,30 +41,18 @@ fn pick_amount(dice: &mut Dice) -> i32 {
 // A pair that the kind knows, mostly.
 fn pick_pair<K: Kind>(dice: &mut Dice) -> (u8, i32) {
     let knows = !dice.chance(5);
-    let mut operation = 1;
-    let mut amount = 1;
+    let mut pair = (1, 1);
     for _ in 0..16 {
-        operation = dice.byte(4);
-        amount = pick_amount(dice);
-        if K::is_known(operation, amount) == knows {
+        pair = (dice.byte(4), pick_amount(dice));
+        if K::is_known(pair.0, pair.1) == knows {
             break;
         }
     }
-    (operation, amount)
+    pair
 }
 
-pub(crate) fn pick_movement<K: Kind>(run: &mut Run<K>) -> Movement {
-    let article = pick_article(run);
-    let (operation, amount) = pick_pair::<K>(&mut run.dice);
-    Movement {
-        article,
-        operation,
-        amount,
-    }
-}
-
-// A buffer's length: mostly that of a slot, or too short for some messages.
-pub(crate) fn pick_length(dice: &mut Dice) -> usize {
+// How many bytes a message may have: mostly a whole slot, or too few for some messages.
+pub(crate) fn pick_most(dice: &mut Dice) -> usize {
     if dice.chance(80) {
         SLOT_BYTES
     } else {
@@ -82,30 +60,63 @@ pub(crate) fn pick_length(dice: &mut Dice) -> usize {
     }
 }
 
-// A hand with another ticket than the site's own, where there is one. The ticket of a twin fits a table
-// whose clock is still 0 as its own does, so it is not used there.
-fn pick_wrong<K: Kind>(run: &mut Run<K>, hands: &[Option<Ticket>], site: u8) -> Option<u8> {
-    let hand = run.dice.byte(STRANGER + 1);
-    if hand == site || !holds(hands, hand) {
-        return None;
+pub(crate) fn pick_space(dice: &mut Dice) -> Space {
+    Space {
+        slot: dice.byte(SLOTS),
+        most: pick_most(dice),
     }
-    if hand == STRANGER && run.has_twin && run.book.greatest(site) == 0 {
-        return None;
-    }
-    Some(hand)
 }
 
-// The hand whose ticket a line at the site goes by: the own one, or now and then a wrong one.
-pub(crate) fn pick_hand<K: Kind>(
-    run: &mut Run<K>,
-    hands: &[Option<Ticket>],
-    site: u8,
-) -> Option<u8> {
-    let has_own = holds(hands, site);
-    if run.dice.chance(12) {
-        if let Some(hand) = pick_wrong(run, hands, site) {
-            return Some(hand);
+impl<K: Kind + Drop, J: Kind + Drop> Run<K, J> {
+    // An article of the group, mostly one of the first two, so that sites meet on it; now and then none.
+    pub(crate) fn pick_article(&mut self) -> u8 {
+        if self.dice.chance(4) {
+            return self.articles.wrapping_add(self.dice.byte(190));
+        }
+        if self.dice.chance(75) {
+            return self.dice.byte(self.articles.min(2));
+        }
+        self.dice.byte(self.articles)
+    }
+
+    // A peer; now and then none of the group.
+    pub(crate) fn pick_peer(&mut self) -> u8 {
+        if self.dice.chance(4) {
+            return self.sites.wrapping_add(self.dice.byte(200));
+        }
+        self.dice.byte(self.sites)
+    }
+
+    pub(crate) fn pick_movement(&mut self) -> Movement {
+        let article = self.pick_article();
+        let (operation, amount) = pick_pair::<K>(&mut self.dice);
+        Movement {
+            article,
+            operation,
+            amount,
         }
     }
-    if has_own { Some(site) } else { None }
+
+    // Does the stranger's ticket have to be refused at the site? That of a twin fits a table whose clock
+    // is still 0 as its own does.
+    fn is_strange_at(&self, site: u8) -> bool {
+        self.stranger.holds() && !(self.has_twin && self.book.greatest(site) == 0)
+    }
+
+    // One with another ticket than the site's own, where there is one.
+    fn pick_wrong(&mut self, site: u8) -> Option<Holder> {
+        match self.dice.byte(STRANGER + 1) {
+            STRANGER => self.is_strange_at(site).then_some(Holder::Stranger),
+            other => (other != site && self.holds(other)).then_some(Holder::Site(other)),
+        }
+    }
+
+    // Whose ticket a line at the site goes by: the own one, or now and then a wrong one.
+    pub(crate) fn pick_holder(&mut self, site: u8) -> Option<Holder> {
+        let own = self.holds(site).then_some(Holder::Own);
+        if self.dice.chance(12) {
+            return self.pick_wrong(site).or(own);
+        }
+        own
+    }
 }

@@ -1,33 +1,38 @@
 // A run from its beginning to its end, with lines by chance.
-use crate::calls::{abandon_with, open_with};
 use crate::chances::Dice;
-use crate::laws::check_all;
-use crate::levels::{bring_level, settle, stir};
-use crate::lines::{
-    abandon_line, archive_line, commit_line, forged_line, offer_line, open_line, take_line,
-    write_line,
-};
-use crate::makes::{make_run, make_table};
-use crate::picks::{pick_article, pick_hand, pick_length, pick_movement, pick_peer};
+use crate::makes::{Stranger, make_run};
+use crate::picks::{Holder, pick_most, pick_space};
 use crate::reports::{Counts, Law};
-use crate::runs::{Run, SLOTS, STRANGER, holds};
+use crate::runs::{Run, SLOTS, STRANGER};
+use crate::seats::Ending;
+use crate::slots::Space;
 use crate::stops::Stop;
-use action::Setup;
 use kind::Kind;
 use std::alloc::Global;
-use table::Ticket;
+
+// A call that goes by a ticket.
+#[derive(Clone, Copy)]
+enum ByTicket {
+    Write,
+    Commit,
+    Abandon,
+}
+
+// A call that goes by none.
+#[derive(Clone, Copy)]
+enum Plain {
+    Offer,
+    Take,
+    Forged,
+    Archive,
+}
 
 // Which call a line makes. Two stand for many lines: they bring an article level, or have all sites move.
 #[derive(Clone, Copy)]
 enum Choice {
     Open,
-    Write,
-    Commit,
-    Abandon,
-    Offer,
-    Take,
-    Forged,
-    Archive,
+    ByTicket(ByTicket),
+    Plain(Plain),
     Level,
     Stir,
 }
@@ -37,163 +42,124 @@ fn pick_choice(dice: &mut Dice) -> Choice {
         0 => Choice::Level,
         1 => Choice::Stir,
         2..=5 => Choice::Open,
-        6..=31 => Choice::Write,
-        32..=39 => Choice::Commit,
-        40..=41 => Choice::Abandon,
-        42..=61 => Choice::Offer,
-        62..=85 => Choice::Take,
-        86..=93 => Choice::Forged,
-        _ => Choice::Archive,
+        6..=31 => Choice::ByTicket(ByTicket::Write),
+        32..=39 => Choice::ByTicket(ByTicket::Commit),
+        40..=41 => Choice::ByTicket(ByTicket::Abandon),
+        42..=61 => Choice::Plain(Plain::Offer),
+        62..=85 => Choice::Plain(Plain::Take),
+        86..=93 => Choice::Plain(Plain::Forged),
+        _ => Choice::Plain(Plain::Archive),
     }
 }
 
-// A line by a ticket. Where there is none a transaction is opened.
-fn ticket_line<K: Kind>(
-    run: &mut Run<K>,
-    hands: &mut [Option<Ticket>],
-    counts: &mut Counts,
-    site: u8,
-    choice: Choice,
-) -> Result<(), Stop> {
-    let Some(by) = pick_hand(run, hands, site) else {
-        return open_line(run, hands, counts, site);
-    };
-    match choice {
-        Choice::Commit => {
-            let slot = run.dice.byte(SLOTS);
-            let most = pick_length(&mut run.dice);
-            commit_line(run, hands, counts, site, by, slot, most)
+impl<K: Kind + Drop, J: Kind + Drop> Run<K, J> {
+    // A line by a ticket. Where there is none a transaction is opened.
+    fn ticket_line(&mut self, site: u8, call: ByTicket) -> Result<(), Stop> {
+        let Some(by) = self.pick_holder(site) else {
+            return self.open_line(site);
+        };
+        match call {
+            ByTicket::Write => {
+                let movement = self.pick_movement();
+                self.write_line(site, by, movement)
+            }
+            ByTicket::Commit => {
+                let space = pick_space(&mut self.dice);
+                self.commit_line(site, by, space)
+            }
+            ByTicket::Abandon => self.abandon_line(site, by),
         }
-        Choice::Abandon => abandon_line(run, hands, counts, site, by),
-        _ => {
-            let movement = pick_movement(run);
-            write_line(run, hands, counts, site, by, movement)
+    }
+
+    // A take of a message, now and then twice in a row.
+    fn take_lines(&mut self, site: u8) -> Result<(), Stop> {
+        let slot = self.dice.byte(SLOTS);
+        self.take_line(site, slot)?;
+        if self.dice.chance(10) {
+            self.take_line(site, slot)?;
         }
+        Ok(())
+    }
+
+    // A line without a ticket.
+    fn plain_line(&mut self, site: u8, call: Plain) -> Result<(), Stop> {
+        let slot = self.dice.byte(SLOTS);
+        let article = self.pick_article();
+        match call {
+            Plain::Offer => {
+                let peer = self.pick_peer();
+                let most = pick_most(&mut self.dice);
+                self.offer_line(site, peer, article, Space { slot, most })
+            }
+            Plain::Take => self.take_lines(site),
+            Plain::Forged => self.forged_line(site, slot),
+            Plain::Archive => self.archive_line(site, article),
+        }
+    }
+
+    // A line by chance, at a site by chance.
+    fn any_line(&mut self) -> Result<(), Stop> {
+        let site = self.dice.byte(self.sites);
+        let article = self.dice.byte(self.articles.min(2));
+        match pick_choice(&mut self.dice) {
+            Choice::Open => self.open_line(site),
+            Choice::ByTicket(call) => self.ticket_line(site, call),
+            Choice::Plain(call) => self.plain_line(site, call),
+            Choice::Level => {
+                self.settle()?;
+                self.bring_level(article)
+            }
+            Choice::Stir => self.stir(article),
+        }
+    }
+
+    // Lines by chance, until something is not as it has to be. All laws are checked at all sites now and then.
+    fn play_lines(&mut self, lines: u32) -> Result<(), Stop> {
+        for i in 0..lines {
+            self.any_line()?;
+            if i % 8 == 0 {
+                self.check_all();
+            }
+            if self.counts.is_broken() {
+                break;
+            }
+        }
+        Ok(())
+    }
+
+    // The end of a run: every transaction is ended, two articles are brought level as far as that goes, and all
+    // laws are checked.
+    fn close(&mut self) -> Result<(), Stop> {
+        self.settle()?;
+        for article in 0..self.articles.min(2) {
+            self.bring_level(article)?;
+        }
+        self.check_all();
+        Ok(())
+    }
+
+    // The ticket of the table outside the group goes round too, and has to be refused everywhere.
+    fn play(&mut self, lines: u32) -> Result<(), Stop> {
+        let _ = self.stranger.open();
+        self.play_lines(lines)?;
+        self.close()?;
+        let _ = self.stranger.end(Ending::Abandon, &mut []);
+        let is_spent = !self.stranger.holds();
+        self.counts.hold(Law::Refusal, STRANGER, is_spent);
+        Ok(())
     }
 }
 
-// A take of a message, now and then twice in a row.
-fn take_lines<K: Kind>(
-    run: &mut Run<K>,
-    hands: &[Option<Ticket>],
-    counts: &mut Counts,
-    site: u8,
-) -> Result<(), Stop> {
-    let slot = run.dice.byte(SLOTS);
-    take_line(run, hands, counts, site, slot)?;
-    if run.dice.chance(10) {
-        take_line(run, hands, counts, site, slot)?;
-    }
-    Ok(())
-}
-
-// A line without a ticket.
-fn plain_line<K: Kind>(
-    run: &mut Run<K>,
-    hands: &[Option<Ticket>],
-    counts: &mut Counts,
-    site: u8,
-    choice: Choice,
-) -> Result<(), Stop> {
-    let slot = run.dice.byte(SLOTS);
-    let article = pick_article(run);
-    match choice {
-        Choice::Offer => {
-            let peer = pick_peer(run);
-            let most = pick_length(&mut run.dice);
-            offer_line(run, counts, site, peer, article, slot, most)
-        }
-        Choice::Take => take_lines(run, hands, counts, site),
-        Choice::Forged => forged_line(run, hands, counts, site, slot),
-        _ => archive_line(run, hands, counts, site, article),
-    }
-}
-
-// A line by chance, at a site by chance.
-fn any_line<K: Kind>(
-    run: &mut Run<K>,
-    hands: &mut [Option<Ticket>],
-    counts: &mut Counts,
-) -> Result<(), Stop> {
-    let site = run.dice.byte(run.sites);
-    let article = run.dice.byte(run.articles.min(2));
-    let choice = pick_choice(&mut run.dice);
-    match choice {
-        Choice::Open => open_line(run, hands, counts, site),
-        Choice::Write | Choice::Commit | Choice::Abandon => {
-            ticket_line(run, hands, counts, site, choice)
-        }
-        Choice::Offer | Choice::Take | Choice::Forged | Choice::Archive => {
-            plain_line(run, hands, counts, site, choice)
-        }
-        Choice::Level => {
-            settle(run, hands, counts)?;
-            bring_level(run, hands, counts, article)
-        }
-        Choice::Stir => stir(run, hands, counts, article),
-    }
-}
-
-// The lines of a run. All laws are checked at all sites now and then, and at the end, with every
-// transaction ended and two articles brought level as far as that goes.
-fn play_lines<K: Kind>(
-    run: &mut Run<K>,
-    hands: &mut [Option<Ticket>],
-    counts: &mut Counts,
-    lines: u32,
-) -> Result<(), Stop> {
-    for i in 0..lines {
-        any_line(run, hands, counts)?;
-        if i % 8 == 0 {
-            check_all(run, counts);
-        }
-        if counts.is_broken() {
-            break;
-        }
-    }
-    settle(run, hands, counts)?;
-    for article in 0..run.articles.min(2) {
-        bring_level(run, hands, counts, article)?;
-    }
-    check_all(run, counts);
-    Ok(())
-}
-
-// What is unlike the group in the table that stands outside it.
-#[derive(Clone, Copy)]
-pub(crate) enum Stranger {
-    OtherGroup,
-    OtherKind,
-    // Nothing but the clock, which stays 0.
-    Twin,
-}
-
-// One run. The ticket of a table outside the group goes round too, and has to be refused everywhere.
+// One run.
 pub(crate) fn play_run<K: Kind + Drop, J: Kind + Drop>(
     heap: Global,
-    hands: &mut [Option<Ticket>],
     counts: &mut Counts,
     seed: u64,
     stranger: Stranger,
     lines: u32,
 ) -> Result<(), Stop> {
-    let mut dice = Dice::new(seed);
-    let group = dice.below(65_534).wrapping_add(1);
-    let (other, has_twin) = match stranger {
-        Stranger::OtherGroup => (group.wrapping_add(1), false),
-        Stranger::OtherKind => (group, false),
-        Stranger::Twin => (group, true),
-    };
-    let setup = Setup::new(other, 2, dice.below(2), 1)?;
-    let mut outside = make_table::<J>(heap, &mut dice, setup, 1)?;
-    let mut run = make_run::<K>(heap, dice, group, has_twin)?;
-    if let Some(hand) = hands.get_mut(STRANGER as usize) {
-        open_with(&mut outside, hand)?;
-    }
-    play_lines(&mut run, hands, counts, lines)?;
-    if let Some(hand) = hands.get_mut(STRANGER as usize) {
-        abandon_with(&mut outside, hand)?;
-    }
-    counts.hold(Law::Refusal, STRANGER, !holds(hands, STRANGER));
-    Ok(())
+    let mut run = make_run::<K, J>(heap, seed, stranger, *counts)?;
+    let outcome = run.play(lines);
+    *counts = run.counts;
+    outcome
 }

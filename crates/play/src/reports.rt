@@ -1,5 +1,5 @@
 // What has been met and checked, and the first thing that was not as it has to be.
-use std::io;
+use std::fmt;
 
 // What the program holds a run to.
 #[derive(Clone, Copy)]
@@ -26,9 +26,9 @@ pub(crate) enum Law {
     Answer,
 }
 
-impl Law {
-    fn words(self) -> &'static str {
-        match self {
+impl fmt::Display for Law {
+    fn fmt<W: fmt::Write>(&self, f: &mut fmt::Formatter<W>) -> fmt::Result {
+        f.write_str(match self {
             Law::Figure => "a, figure",
             Law::Vector => "a, vector",
             Law::Distinct => "a, distinct",
@@ -39,26 +39,27 @@ impl Law {
             Law::Still => "still",
             Law::Refusal => "refusal",
             Law::Answer => "answer",
-        }
+        })
     }
 }
 
 // Where a run first was not as it has to be.
 #[derive(Clone, Copy)]
 pub(crate) struct Broken {
-    law: Law,
-    run: u32,
-    line: u32,
-    site: u8,
+    pub(crate) law: Law,
+    pub(crate) run: u32,
+    pub(crate) line: u32,
+    pub(crate) site: u8,
 }
 
-#[derive(Clone, Copy)]
+#[derive(Clone, Copy, Default)]
 pub(crate) struct Counts {
-    pub(crate) run: u32,
+    run: u32,
     // The number of the line within its run.
-    pub(crate) line: u32,
-    pub(crate) lines: u64,
+    line: u32,
+    lines: u64,
     granted: u64,
+    // By the refusal's number.
     refused: [u64; 19],
     pub(crate) committed: u64,
     pub(crate) taken: u64,
@@ -67,46 +68,31 @@ pub(crate) struct Counts {
     pub(crate) levels: u64,
     pub(crate) moved_levels: u64,
     pub(crate) repeats: u64,
-    broken: Option<Broken>,
+    pub(crate) broken: Option<Broken>,
 }
 
-// One more; it would take longer than anyone waits until this wraps.
+// So many more; it would take longer than anyone waits until this wraps.
 pub(crate) fn up(count: &mut u64, by: usize) {
     *count = (*count).wrapping_add(by as u64);
 }
 
 impl Counts {
-    pub(crate) fn new() -> Counts {
-        Counts {
-            run: 0,
-            line: 0,
-            lines: 0,
-            granted: 0,
-            refused: [0; 19],
-            committed: 0,
-            taken: 0,
-            archived: 0,
-            figures: 0,
-            levels: 0,
-            moved_levels: 0,
-            repeats: 0,
-            broken: None,
-        }
-    }
-
     pub(crate) fn begin(&mut self, run: u32) {
         self.run = run;
         self.line = 0;
     }
 
-    // A line has been played: 0 where it was granted, or the number of its refusal.
-    pub(crate) fn note_line(&mut self, number: u8) {
+    // A line has been played: it was granted, or refused by the number.
+    pub(crate) fn note_line(&mut self, refused: Option<u8>) {
         up(&mut self.lines, 1);
         self.line = self.line.wrapping_add(1);
-        if number == 0 {
-            up(&mut self.granted, 1);
-        } else if let Some(count) = self.refused.get_mut(number as usize) {
-            up(count, 1);
+        match refused {
+            None => up(&mut self.granted, 1),
+            Some(number) => {
+                if let Some(count) = self.refused.get_mut(number as usize) {
+                    up(count, 1);
+                }
+            }
         }
     }
 
@@ -125,43 +111,22 @@ impl Counts {
     pub(crate) fn is_broken(&self) -> bool {
         self.broken.is_some()
     }
+}
 
-    // How often calls were refused by the number.
-    fn refusals(&self, number: usize) -> u64 {
-        self.refused.get(number).copied().unwrap_or(0)
-    }
-
-    // Prints the first fault, if there is one.
-    pub(crate) fn print_fault(&self, rt: &HostRuntime, seed: u64) -> io::Result<()> {
-        if let Some(broken) = self.broken {
-            let law = broken.law.words();
-            let run = broken.run;
-            let line = broken.line;
-            let site = broken.site;
-            println!(rt; "broken: {law} (seed {seed}, run {run}, line {line}, site {site})")?;
-        }
-        Ok(())
-    }
-
-    pub(crate) fn print(&self, rt: &HostRuntime) -> io::Result<()> {
+impl fmt::Display for Counts {
+    fn fmt<W: fmt::Write>(&self, f: &mut fmt::Formatter<W>) -> fmt::Result {
         let lines = self.lines;
         let granted = self.granted;
-        println!(rt; "lines {lines}, granted {granted}")?;
-        for number in 2..17 {
-            let times = self.refusals(number);
-            println!(rt; "refused by {number}: {times}")?;
+        writeln!(f, "lines {lines}, granted {granted}")?;
+        for (number, times) in self.refused.iter().enumerate().take(17).skip(2) {
+            writeln!(f, "refused by {number}: {times}")?;
         }
         let committed = self.committed;
         let taken = self.taken;
         let archived = self.archived;
-        println!(rt; "actions committed {committed}, taken {taken}, archived {archived}")
-    }
-
-    pub(crate) fn print_laws(&self, rt: &HostRuntime) -> io::Result<()> {
-        let a = self.figures;
-        let b = self.levels;
-        let moved = self.moved_levels;
-        let c = self.repeats;
-        println!(rt; "laws hold: a {a}, b {b} ({moved} with actions), c {c}")
+        write!(
+            f,
+            "actions committed {committed}, taken {taken}, archived {archived}"
+        )
     }
 }

@@ -1,115 +1,103 @@
 // One run: the tables of one group, the messages that wait, and the book.
 use crate::books::Book;
 use crate::chances::Dice;
+use crate::reports::Counts;
+use crate::seats::Seat;
 use crate::slots::Slot;
-use crate::tables::AnyTable;
-use crate::walks::Stretch;
+use either::Either;
+use history::{Rack, Strip};
 use kind::Kind;
-use std::alloc::AllocError;
-use table::Ticket;
+use std::alloc::{AllocError, Global};
+use table::Table;
 
 // How many messages wait at a time; an older one is lost when another goes into its slot.
 pub(crate) const SLOTS: u8 = 12;
 
-// Where the ticket of the stranger lies, behind those of the sites.
+// The number of the table outside the group, behind those of the sites.
 pub(crate) const STRANGER: u8 = 8;
 
+// A site's table stands on either of the two histories.
+pub(crate) type Shelf = Either<Rack, Strip>;
+
+// `K` is the kind of the sites' tables, and `J` that of the one outside the group.
 #[derive(Drop)]
-pub(crate) struct Run<K> {
+pub(crate) struct Run<K: Kind + Drop, J: Kind + Drop> {
+    pub(crate) heap: Global,
     pub(crate) sites: u8,
     pub(crate) articles: u8,
-    // By site: how many places its history has.
-    pub(crate) places: Vec<usize>,
-    pub(crate) tables: Vec<AnyTable<K>>,
+    // By site.
+    pub(crate) seats: Vec<Seat<K, Shelf>>,
+    pub(crate) stranger: Seat<J, Shelf>,
+    // Does the stranger's ticket bear the group and the kind of this run? Then it fits where no time has passed.
+    pub(crate) has_twin: bool,
     pub(crate) slots: Vec<Slot>,
     pub(crate) book: Book,
     pub(crate) dice: Dice,
-    // Does the stranger's ticket bear the group and the kind of this run? Then it fits where no time has passed.
-    pub(crate) has_twin: bool,
-    // The intervals of the message at hand.
-    pub(crate) stretches: Vec<Stretch>,
-    // What the acting site's table showed before the line, and what it shows after it.
-    pub(crate) before: Vec<i64>,
-    pub(crate) after: Vec<i64>,
+    pub(crate) counts: Counts,
 }
 
-// Does the hand hold a ticket?
-pub(crate) fn holds(hands: &[Option<Ticket>], hand: u8) -> bool {
-    match hands.get(hand as usize) {
-        Some(Some(_)) => true,
-        _ => false,
+impl<K: Kind + Drop, J: Kind + Drop> Run<K, J> {
+    fn seat(&self, site: u8) -> Option<&Seat<K, Shelf>> {
+        self.seats.get(site as usize)
     }
-}
 
-// All that a table shows: its clock, and for each article the figure and the known entries.
-fn show<K: Kind>(
-    table: &AnyTable<K>,
-    sites: u8,
-    articles: u8,
-    shown: &mut Vec<i64>,
-) -> Result<(), AllocError> {
-    shown.clear();
-    shown.push(i64::from(table.clock()))?;
-    for article in 0..articles {
-        shown.push(table.figure(article).unwrap_or(0))?;
-        for z in 0..sites {
-            for q in 0..sites {
-                shown.push(i64::from(table.known(article, z, q).unwrap_or(0)))?;
-            }
-        }
+    pub(crate) fn table(&self, site: u8) -> Option<&Table<K, Shelf>> {
+        self.seat(site).map(|seat| seat.table())
     }
-    Ok(())
-}
 
-impl<K: Kind> Run<K> {
-    // Remembers what the site's table shows.
-    pub(crate) fn look(&mut self, site: u8) -> Result<(), AllocError> {
-        match self.tables.get(site as usize) {
-            Some(table) => show(table, self.sites, self.articles, &mut self.before),
+    // Does the site hold a ticket?
+    pub(crate) fn holds(&self, site: u8) -> bool {
+        self.seat(site).is_some_and(|seat| seat.holds())
+    }
+
+    // Puts a message into a slot.
+    pub(crate) fn put(&mut self, slot: u8, message: &[u8]) -> Result<(), AllocError> {
+        match self.slots.get_mut(slot as usize) {
+            Some(slot) => slot.hold(message),
             None => Ok(()),
         }
     }
 
-    // Does the table show what it showed at the last look?
-    pub(crate) fn is_same(&mut self, site: u8) -> Result<bool, AllocError> {
-        match self.tables.get(site as usize) {
-            Some(table) => show(table, self.sites, self.articles, &mut self.after)?,
-            None => {}
-        }
-        Ok(self.before == self.after)
-    }
-
     // How many places the site's history has free.
     pub(crate) fn free(&self, site: u8) -> usize {
-        let places = self.places.get(site as usize).copied().unwrap_or(0);
-        places.wrapping_sub(self.book.kept(site))
+        let places = self.seat(site).map_or(0, |seat| seat.places);
+        places.saturating_sub(self.book.kept(site))
     }
 
     pub(crate) fn clock(&self, site: u8) -> u32 {
-        match self.tables.get(site as usize) {
-            Some(table) => table.clock(),
-            None => 0,
-        }
+        self.table(site).map_or(0, |table| table.clock())
     }
 
     pub(crate) fn figure(&self, site: u8, article: u8) -> i64 {
-        match self.tables.get(site as usize) {
-            Some(table) => table.figure(article).unwrap_or(0),
-            None => 0,
-        }
+        self.table(site)
+            .map_or(0, |table| table.figure(article).unwrap_or(0))
     }
 
     pub(crate) fn known(&self, site: u8, article: u8, z: u8, q: u8) -> u32 {
-        match self.tables.get(site as usize) {
-            Some(table) => table.known(article, z, q).unwrap_or(u32::MAX),
-            None => u32::MAX,
-        }
+        self.table(site).map_or(u32::MAX, |table| {
+            table.known(article, z, q).unwrap_or(u32::MAX)
+        })
     }
 
     pub(crate) fn open_item(&self, site: u8, article: u8, peer: u8) -> bool {
-        match self.tables.get(site as usize) {
-            Some(table) => table.open_item(article, peer).unwrap_or(true),
-            None => true,
+        self.table(site)
+            .is_none_or(|table| table.open_item(article, peer).unwrap_or(true))
+    }
+
+    // All that a site's table shows: its clock, and for each article the figure and the known entries.
+    pub(crate) fn shown(&self, site: u8) -> Result<Vec<i64>, AllocError> {
+        let mut shown = vec![in self.heap; i64::from(self.clock(site))]?;
+        for article in 0..self.articles {
+            shown.push(self.figure(site, article))?;
+            self.show_known(site, article, &mut shown)?;
         }
+        Ok(shown)
+    }
+
+    fn show_known(&self, site: u8, article: u8, shown: &mut Vec<i64>) -> Result<(), AllocError> {
+        for z in 0..self.sites {
+            shown.extend((0..self.sites).map(|q| i64::from(self.known(site, article, z, q))))?;
+        }
+        Ok(())
     }
 }

@@ -1,66 +1,60 @@
 // Where messages wait to be taken.
+use std::alloc::{AllocError, Global};
 
 // The longest offer of a history of 120 places, with eight sites, has 11 + 80 + 1,920 bytes.
 pub(crate) const SLOT_BYTES: usize = 2048;
 
-// A place for one message. It holds nothing while none of its bytes is used.
-#[derive(Clone, Copy)]
+// A place for one message, which is empty at first.
+#[derive(Drop)]
 pub(crate) struct Slot {
-    bytes: [u8; 2048],
-    used: usize,
+    message: Vec<u8>,
     // By site: has it taken this very message before?
     taken: [bool; 8],
 }
 
 impl Slot {
-    pub(crate) fn empty() -> Slot {
+    pub(crate) fn empty(heap: Global) -> Slot {
         Slot {
-            bytes: [0; 2048],
-            used: 0,
+            message: Vec::new(heap),
             taken: [false; 8],
         }
     }
 
     pub(crate) fn message(&self) -> &[u8] {
-        let end = self.used.min(self.bytes.len());
-        &self.bytes[0..end]
+        &self.message
     }
 
-    // The first bytes of the slot, so many at the most, for a call to write to.
-    pub(crate) fn buffer(&mut self, most: usize) -> &mut [u8] {
-        let end = most.min(self.bytes.len());
-        &mut self.bytes[0..end]
-    }
-
-    // A call has written a message of this length.
-    pub(crate) fn hold(&mut self, length: usize) {
-        self.used = length;
+    // Holds another message from now on.
+    pub(crate) fn hold(&mut self, message: &[u8]) -> Result<(), AllocError> {
         self.taken = [false; 8];
+        self.message.clear();
+        self.message.extend_from_slice(message)
     }
 
     pub(crate) fn was_taken(&self, site: u8) -> bool {
         self.taken.get(site as usize).copied().unwrap_or(false)
     }
 
-    pub(crate) fn take_note(&mut self, site: u8) {
+    pub(crate) fn note_take(&mut self, site: u8) {
         if let Some(taken) = self.taken.get_mut(site as usize) {
             *taken = true;
         }
     }
+}
 
-    pub(crate) fn length(&self) -> usize {
-        self.used
-    }
+// Where a call may put a message: the slot, and how many bytes at the most.
+#[derive(Clone, Copy)]
+pub(crate) struct Space {
+    pub(crate) slot: u8,
+    pub(crate) most: usize,
+}
 
-    // Makes the message so many bytes long, for damaged ones.
-    pub(crate) fn resize(&mut self, length: usize) {
-        self.used = length;
-    }
-
-    // Changes one byte, for damaged ones.
-    pub(crate) fn patch(&mut self, at: usize, byte: u8) {
-        if let Some(old) = self.bytes.get_mut(at) {
-            *old = byte;
+impl Space {
+    // All of a slot.
+    pub(crate) fn whole(slot: u8) -> Space {
+        Space {
+            slot,
+            most: SLOT_BYTES,
         }
     }
 }

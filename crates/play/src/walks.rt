@@ -1,5 +1,8 @@
 // A reading of messages of the program's own, so that its book leans on nothing of the library's.
-use std::alloc::AllocError;
+ghost use Rattle.std.specs.Prelude.{length};
+ghost use Rattle.std.specs.Iterator.{at_most};
+
+use std::alloc::{AllocError, Global};
 
 // An interval of a message, the article that it is about, and where in the message it stands.
 #[derive(Clone, Copy)]
@@ -11,48 +14,50 @@ pub(crate) struct Stretch {
     pub(crate) to: u32,
 }
 
-pub(crate) fn byte_at(bytes: &[u8], at: usize) -> u8 {
-    bytes.get(at).copied().unwrap_or(0)
+// The records of a message, each with the place where it stands. Its kind byte says how long it is.
+#[derive(Drop)]
+struct Records<'a> {
+    at: usize,
+    left: &'a [u8],
 }
 
-fn number_at(bytes: &[u8], at: usize) -> u32 {
-    u32::from_be_bytes([
-        byte_at(bytes, at),
-        byte_at(bytes, at.wrapping_add(1)),
-        byte_at(bytes, at.wrapping_add(2)),
-        byte_at(bytes, at.wrapping_add(3)),
-    ])
-}
+impl<'a> Iterator for Records<'a> {
+    type Item = (usize, &'a [u8]);
 
-fn stretch_at(bytes: &[u8], at: usize, article: u8) -> Stretch {
-    Stretch {
-        at,
-        article,
-        site: byte_at(bytes, at.wrapping_add(1)),
-        from: number_at(bytes, at.wrapping_add(2)),
-        to: number_at(bytes, at.wrapping_add(6)),
+    ghost remaining = { λ walk. at_most (length walk.left.now) };
+
+    fn next(&mut self) -> Option<(usize, &'a [u8])> {
+        let length = match self.left.first()? {
+            b'H' => 6,
+            b'S' => 5,
+            b'I' => 10,
+            b'A' => 16,
+            _ => return None,
+        };
+        let (record, left) = self.left.split_at_checked(length)?;
+        let at = self.at;
+        self.at = at.wrapping_add(length);
+        self.left = left;
+        Some((at, record))
     }
 }
 
-// All intervals of a message, from the first to the last. Each record's kind byte says how long it is.
-pub(crate) fn stretches(bytes: &[u8], found: &mut Vec<Stretch>) -> Result<(), AllocError> {
-    found.clear();
-    let mut at = 0usize;
+// All intervals of a message, from the first to the last.
+pub(crate) fn stretches(heap: Global, bytes: &[u8]) -> Result<Vec<Stretch>, AllocError> {
+    let mut found = Vec::new(heap);
     let mut article = 0;
-    for _ in 0..bytes.len() {
-        match byte_at(bytes, at) {
-            b'H' => at = at.wrapping_add(6),
-            b'S' => {
-                article = byte_at(bytes, at.wrapping_add(1));
-                at = at.wrapping_add(5);
-            }
-            b'I' => {
-                found.push(stretch_at(bytes, at, article))?;
-                at = at.wrapping_add(10);
-            }
-            b'A' => at = at.wrapping_add(16),
-            _ => return Ok(()),
+    for (at, record) in (Records { at: 0, left: bytes }) {
+        match *record {
+            [b'S', about, ..] => article = about,
+            [b'I', site, f3, f2, f1, f0, t3, t2, t1, t0] => found.push(Stretch {
+                at,
+                article,
+                site,
+                from: u32::from_be_bytes([f3, f2, f1, f0]),
+                to: u32::from_be_bytes([t3, t2, t1, t0]),
+            })?,
+            _ => {}
         }
     }
-    Ok(())
+    Ok(found)
 }

@@ -1,0 +1,18 @@
+// The refusals that a line can be due, each by its number.
+#[derive(Clone, Copy)]
+pub(crate) enum Due {
+    AlreadyOpen = 2,
+    NotItsTicket = 3,
+    NoArticle = 4,
+    NoSite = 5,
+    UnknownPair = 6,
+    TooManyWrites = 7,
+    Cut = 9,
+    Foreign = 10,
+    Broken = 11,
+    Trailing = 12,
+    Behind = 13,
+    Ahead = 14,
+    Short = 15,
+    Full = 16,
+}
