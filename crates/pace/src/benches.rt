@@ -25,7 +25,7 @@ const LONGEST: usize = 4137;
 
 // A table with the messages that it wrote, or that it takes.
 #[derive(Drop)]
-pub struct Bench<H> {
+pub struct Bench<H: History> {
     heap: Global,
     places: usize,
     setup: Setup,

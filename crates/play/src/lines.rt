@@ -6,6 +6,7 @@ use crate::runs::Run;
 use crate::slots::{SLOT_BYTES, Space};
 use crate::stops::Stop;
 use crate::walks::{Stretch, stretches};
+use action::Refusal;
 use kind::Kind;
 use std::alloc::AllocError;
 use table::TableFault;
@@ -40,7 +41,7 @@ impl<K: Kind + Drop, J: Kind + Drop> Run<K, J> {
         changes: bool,
     ) -> Result<(), AllocError> {
         let site = line.site;
-        let refused = fault.map(|fault| fault.refusal().number);
+        let refused = fault.map(|fault| Refusal::from(fault).number);
         let due = line.due.map(|due| due as u8);
         self.counts.note_line(refused);
         self.counts.hold(Law::Refusal, site, refused == due);

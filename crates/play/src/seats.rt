@@ -1,7 +1,6 @@
 // A table and the ticket of its open transaction, which cannot be let go: a seat that is let go abandons by it.
 ghost use Rattle.std.specs.Prelude.{◌≡◌, ◌≤◌, true, Some, None, MatchResult, length};
 ghost use Rattle.table.specs.Transactions.{holds};
-ghost use Rattle.table.specs.View.{view};
 
 use crate::picks::Movement;
 use history::History;
@@ -20,7 +19,7 @@ pub(crate) struct Seat<K: Kind + Drop, H: History + Drop> {
     table: Table<K, H>,
     pub(crate) places: usize,
     ticket: Option<Ticket>,
-    ghost own: { (t : _) → ticket ≡ Some t → holds K.means (view H.items H.room table) t ≡ true },
+    ghost own: { (t : _) → ticket ≡ Some t → holds K.means table t ≡ true },
 }
 
 // Ends the open transaction, unless the ticket is not its own, which comes back then. Answers how many
@@ -31,7 +30,7 @@ fn end<K: Kind, H: History>(
     ending: Ending,
     buffer: &mut [u8],
 ) -> Result<(usize, usize), (TableFault, Ticket)>
-    ensures { MatchResult result (λ _. holds K.means (view H.items H.room table.old) ticket ≡ true) (λ e. (e.1 ≡ ticket) × (view H.items H.room table.new ≡ view H.items H.room table.old)) }
+    ensures { MatchResult result (λ _. holds K.means table.old ticket ≡ true) (λ e. (e.1 ≡ ticket) × (table.new ≡ table.old)) }
 {
     match ending {
         Ending::Commit => table.commit(ticket, buffer),
@@ -55,7 +54,7 @@ fn put_back(hand: &mut Option<Ticket>, ticket: Ticket)
 
 // Abandons the open transaction. That is not refused, since the ticket is the table's own.
 fn give_up<K: Kind, H: History>(table: &mut Table<K, H>, ticket: Ticket)
-    requires { holds K.means (view H.items H.room table.old) ticket ≡ true }
+    requires { holds K.means table.old ticket ≡ true }
 {
     match table.abandon(ticket) {
         Ok(()) => {}

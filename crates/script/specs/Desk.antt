@@ -1,11 +1,7 @@
 -- What a line does to the desk, and what it prints. Assumes nothing.
-use Rattle.std.specs.Prelude.{◌≡◌, ℕ, zero, suc, List, [], map, replicate, Some, None, Err, vec_items, Option, Result, slice_index_or, slice_set}
-use Rattle.action.specs.declared.orders.Action.{Action}
-use Rattle.history.specs.declared.racks.Rack.{Rack}
-use Rattle.history.specs.declared.strips.Strip.{Strip}
-use Rattle.history.specs.Strips as Strips
+use Rattle.std.specs.Prelude.{◌≡◌, ℕ, zero, suc, List, [], map, replicate, Some, None, Err, Option, Result, slice_index_or, slice_set}
 use Rattle.kind.specs.Meanings.{on_hand}
-use Rattle.table.specs.View.{View, fresh, view}
+use Rattle.table.specs.View.{View, fresh}
 use Rattle.script.specs.declared.answers.Answer.{Answer}
 use Rattle.script.specs.declared.commands.Command.{Command}
 use Rattle.script.specs.declared.commands.Command.TheVariants.{Move, Offer, Figure, OpenItem}
@@ -23,23 +19,11 @@ pub record DeskView : Type 0 where
   pub third : View
   pub slots : List (List ℕ)
 
-abbrev pub rack_items : Rack → List Action
-rack_items rack = vec_items rack.actions
-
-abbrev pub rack_room : Rack → ℕ
-rack_room rack = rack.places
-
-abbrev pub strip_items : Strip → List Action
-strip_items strip = Strips.strip_items strip.used (vec_items strip.bytes)
-
-abbrev pub strip_room : Strip → ℕ
-strip_room strip = strip.places
-
 abbrev pub desk_view : Desk → DeskView
 desk_view d = record {
-  first = view rack_items rack_room d.first;
-  second = view rack_items rack_room d.second;
-  third = view strip_items strip_room d.third;
+  first = d.first;
+  second = d.second;
+  third = d.third;
   slots = map held d.slots;
 }
 

@@ -2,7 +2,6 @@
 ghost use Rattle.std.specs.Prelude.{◌≡◌, true};
 ghost use Rattle.kind.specs.Meanings.{on_hand};
 ghost use Rattle.table.specs.Transactions.{abandoned, holds};
-ghost use Rattle.table.specs.View.{view};
 ghost use Rattle.script.specs.Acts.{Moved, Offered};
 ghost use Rattle.script.specs.Slots.{held};
 
@@ -19,8 +18,8 @@ const ADD: u8 = 1;
 // Abandons the open transaction, and hands on why. That is not refused, since the ticket is the
 // table's own.
 fn give_up<H: History>(table: &mut Table<OnHand, H>, ticket: Ticket, fault: TableFault) -> LineFault
-    requires { holds on_hand (view H.items H.room table.old) ticket ≡ true }
-    ensures table { view H.items H.room table.new ≡ abandoned (view H.items H.room table.old) }
+    requires { holds on_hand table.old ticket ≡ true }
+    ensures table { table.new ≡ abandoned table.old }
     ensures fault { result ≡ LineFault.Table fault }
 {
     table.abandon(ticket).unwrap();
@@ -35,7 +34,7 @@ pub(crate) fn move_stock<H: History>(
     amount: i32,
     slot: &mut Slot,
 ) -> Result<Answer, LineFault>
-    ensures { Moved (view H.items H.room table.old) article amount (held slot.old) result (view H.items H.room table.new) (held slot.new) }
+    ensures { Moved table.old article amount (held slot.old) result table.new (held slot.new) }
 {
     let ticket = table.open()?;
     let time = match table.write(&ticket, article, ADD, amount) {
@@ -59,7 +58,7 @@ pub(crate) fn offer_article<H: History>(
     article: u8,
     slot: &mut Slot,
 ) -> Result<Answer, LineFault>
-    ensures { Offered (view H.items H.room table.now) peer article (held slot.old) result (held slot.new) }
+    ensures { Offered table.now peer article (held slot.old) result (held slot.new) }
 {
     let mut buffer = [0; SLOT_BYTES];
     let length = table.offer(peer, article, &mut buffer)?;

@@ -2,6 +2,7 @@ ghost use Rattle.std.specs.Prelude.{◌≡◌};
 ghost use Rattle.script.specs.Faults.{number_of};
 ghost use Rattle.script.specs.declared.faults.LineFault.TheVariants.{Table as Carried};
 
+use action::Refusal;
 use table::TableFault;
 
 // Why a line was refused: it has no known form, or the table of its site refused.
@@ -26,7 +27,7 @@ impl LineFault {
     {
         match *self {
             LineFault::NoKnownForm => 18,
-            LineFault::Table(fault) => fault.refusal().number,
+            LineFault::Table(fault) => Refusal::from(fault).number,
         }
     }
 }

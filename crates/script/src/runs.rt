@@ -1,5 +1,4 @@
 ghost use Rattle.std.specs.Prelude.{◌≡◌, ◌<◌, map};
-ghost use Rattle.table.specs.View.{view};
 ghost use Rattle.script.specs.Desk.{Acted, ActedAt, desk_view, ran};
 ghost use Rattle.script.specs.Lines.{Placed};
 ghost use Rattle.script.specs.Sheets.{sheet_bytes};
@@ -25,7 +24,7 @@ fn act_at<H: History>(
     command: Command,
 ) -> Result<Answer, LineFault>
     requires { Placed command }
-    ensures { ActedAt (view H.items H.room table.old) (map held slots.old) command result (view H.items H.room table.new) (map held slots.new) }
+    ensures { ActedAt table.old (map held slots.old) command result table.new (map held slots.new) }
 {
     match command {
         Command::Move {

@@ -4,7 +4,7 @@
 
 ghost use Rattle.std.specs.Prelude.{◌≤◌, length, IfOk};
 
-use action::Setup;
+use action::{Refusal, Setup};
 use history::{History, Rack, Strip};
 use kind::OnHand;
 use std::io;
@@ -59,7 +59,7 @@ fn main(rt: HostRuntime) -> io::Result<()> {
         Ok(takes) => for (taken, figure) in takes {
             println!(rt; "taken {taken}, figure {figure}")?;
         },
-        Err(fault) => println!(rt; "refused {}", fault.refusal().number)?,
+        Err(fault) => println!(rt; "refused {}", Refusal::from(fault).number)?,
     }
     Ok(())
 }

@@ -2,7 +2,6 @@ use Rattle.std.proofs.Common.{take, Ok, Err, sym, ap, ◌∙◌}
 use Rattle.std.proofs.lemmas.Result.{err_from_is_err_and}
 use Rattle.kind.specs.Meanings.{on_hand}
 use Rattle.table.specs.Offers.{offer_bytes, offer_refusal}
-use Rattle.table.specs.View.{view}
 use Rattle.script.specs.declared.answers.Answer.TheVariants.{Number}
 use Rattle.script.specs.Acts.{answered}
 use Rattle.script.specs.Faults.{number_of}
@@ -12,7 +11,7 @@ use Rattle.script.proofs.acts.offer_article.Goals as goal
 
 pub returns-in_err-length : goal.returns-in_err-length
 returns-in_err-length g c =
-    let v = view g.H.History.items g.H.History.room c.args.table.now in
+    let v = c.args.table.now in
     let slot = held c.args.slot.now in
     let fault = err_from_is_err_and c.from_residual.result c.from_residual.ensures.1 in
     let told = c.in_err-length.ensures.does in
@@ -20,7 +19,7 @@ returns-in_err-length g c =
 
 pub returns : goal.returns
 returns g c =
-    let v = view g.H.History.items g.H.History.room c.args.table.now in
+    let v = c.args.table.now in
     let told = c.in_ok-length.ensures.does in
     let n = c.in_ok-length.length in
     let bytes = offer_bytes on_hand v c.args.peer c.args.article in

@@ -1,6 +1,5 @@
 use Rattle.std.proofs.Common.{map, get_or, sym, ap, ◌∙◌, arith, subst, w32, SFits, rules}
 use Rattle.std.proofs.lemmas.Int.{to_z-of_z}
-use Rattle.table.specs.View.{view}
 use Rattle.script.specs.Acts.{answered, moved, offered}
 use Rattle.script.specs.Desk.{acted_at}
 use Rattle.script.specs.Lines.{Placed}
@@ -10,7 +9,7 @@ use Rattle.script.proofs.runs.act_at.Goals as goal
 
 pub returns-in-Move : goal.returns-in-Move
 returns-in-Move g c =
-    let v = view g.H.History.items g.H.History.room c.args.table.now in
+    let v = c.args.table.now in
     let slots = c.args.slots.now in
     let m = c.in-Move in
     let none = c.index-slots-from.result in
@@ -20,7 +19,7 @@ returns-in-Move g c =
 
 pub returns-in-Offer : goal.returns-in-Offer
 returns-in-Offer g c =
-    let v = view g.H.History.items g.H.History.room c.args.table.now in
+    let v = c.args.table.now in
     let slots = c.args.slots.now in
     let m = c.in-Offer in
     let placed = subst Placed m.is c.requires in

@@ -1,6 +1,5 @@
 use Rattle.std.proofs.Common.{rules, ◌≡◌, true, Some, subst}
 use Rattle.table.specs.Transactions.{holds}
-use Rattle.table.specs.View.{view}
 use Rattle.play.proofs.Tickets.{same_ticket}
 use Rattle.play.proofs.seats.Seat.end_by.Goals as goal
 
@@ -12,7 +11,7 @@ invariant_of-other-in-Ok g c = record {
       let ticket = c.in_ok-ticket.ticket in
       let mine : self.ticket ≡ Some t = search rules in
       let theirs : other.ticket ≡ Some ticket = search rules in
-      let here = view g.H.History.items g.H.History.room self.table in
+      let here = self.table in
       let same : ticket ≡ t = same_ticket g.K.Kind.means here ticket t c.in-Ok.ensures (self.own t mine) in
-      subst (λ u. holds g.J.Kind.means (view g.H.History.items g.H.History.room other.table) u ≡ true) same (other.own ticket theirs);
+      subst (λ u. holds g.J.Kind.means other.table u ≡ true) same (other.own ticket theirs);
 }

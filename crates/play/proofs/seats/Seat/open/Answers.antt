@@ -1,5 +1,4 @@
 use Rattle.std.proofs.Common.{rules, ◌≡◌, Some}
-use Rattle.table.specs.View.{view}
 use Rattle.play.proofs.Tickets.{held_is_open}
 use Rattle.play.proofs.seats.Seat.open.Goals as goal
 
@@ -7,4 +6,4 @@ pub unreachable-requires : goal.unreachable-requires
 unreachable-requires g c =
     let self = c.args.self.now in
     let held : self.ticket ≡ Some c.in-Some.field-0 = search rules in
-    held_is_open g.K.Kind.means (view g.H.History.items g.H.History.room self.table) c.in-Some.field-0 (self.own c.in-Some.field-0 held) c.in_ok-ticket.ensures.does.0
+    held_is_open g.K.Kind.means self.table c.in-Some.field-0 (self.own c.in-Some.field-0 held) c.in_ok-ticket.ensures.does.0
