@@ -1,3 +1,5 @@
 pub mod Finding
 pub mod Kept
 pub mod RowLaws
+pub mod Sifting
+pub mod Stepping

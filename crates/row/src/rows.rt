@@ -31,11 +31,11 @@ impl Row {
         ensures { self.new ≡ raised_row z q to self.old }
     {
         // An index and not `get_mut`, after which nothing is known of an array's elements.
+        let q = q as usize;
         if z < 8 {
-            let entries = &mut self.known[z as usize];
-            if q < 8 {
-                let entry = &mut entries[q as usize];
-                *entry = (*entry).max(to);
+            let entries: &mut [u32] = &mut self.known[z as usize];
+            if q < entries.len() {
+                entries[q] = entries[q].max(to);
             }
         }
     }

@@ -37,6 +37,7 @@ impl Ledger {
 
     // Steps the kept figures by the message's new actions. A step changes no known entry, so it does
     // not change what is new.
+    #[tactic(auto, using(crate::proofs::Stepping::entry_stepped))]
     fn step_new<K: Kind>(&mut self, bytes: &[u8])
         ensures rows { self.new.rows ≡ fold (on_row (stepped_row K.means.steps)) self.old.rows (filter (is_new_in self.old.rows self.old.setup.own) (actions_of (records_in bytes.now))) }
         ensures fixed { self.new.setup ≡ self.old.setup }
