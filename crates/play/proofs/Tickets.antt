@@ -1,5 +1,5 @@
 -- A table's own ticket is one alone. Assumes nothing.
-use Rattle.std.proofs.Common.{rules, ◌≡◌, true, Some, None}
+use Rattle.std.proofs.Common.{rules, ◌≡◌, true, None}
 use Rattle.kind.specs.Meaning.{Meaning}
 use Rattle.table.specs.declared.tickets.Ticket.{Ticket}
 use Rattle.table.specs.Transactions.{holds, open_refusal}

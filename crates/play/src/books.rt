@@ -3,7 +3,7 @@ use crate::picks::Movement;
 use crate::walks::Stretch;
 use action::Action;
 use kind::Kind;
-use std::alloc::{AllocError, AllocFailed, Global};
+use std::alloc::{AllocError, Global};
 use std::collections::BTreeMap;
 
 // Where an action stands in the order of actions: by time, then by coordinator, then by article.
@@ -52,16 +52,14 @@ impl Page {
 
 #[derive(Drop)]
 pub(crate) struct Book {
-    heap: Global,
     pages: Vec<Page>,
-    // Every action of a granted commit.
+    // Every action of a granted commit, in the order of actions.
     pub(crate) committed: BTreeMap<Rank, Action>,
 }
 
 impl Book {
     pub(crate) fn new(heap: Global, sites: u8) -> Result<Book, AllocError> {
         Ok(Book {
-            heap,
             pages: (0..sites).map(|_| Page::new(heap)).collect(heap)?,
             committed: BTreeMap::new(heap),
         })
@@ -121,24 +119,24 @@ impl Book {
         }
     }
 
-    // Puts an action among the committed ones. Answers whether no other has its coordinator and time.
-    fn enter(&mut self, action: Action) -> Result<bool, AllocFailed<(Rank, Action)>> {
+    // Puts an action among the committed ones, which its coordinator reaches. Answers whether no other has its
+    // coordinator and time.
+    fn enter(&mut self, action: Action) -> Result<bool, AllocError> {
         let is_new = !self.committed.values().any(|other| other.coordinator == action.coordinator
             && other.time == action.time);
         self.committed.insert(rank(&action), action)?;
+        if let Some(page) = self.page_mut(action.coordinator) {
+            page.raise(action.article, action.coordinator, action.time);
+        }
         Ok(is_new)
     }
 
-    // A commit was granted: the site reaches its own pending actions. Answers whether they are all new.
-    pub(crate) fn commit(&mut self, site: u8) -> Result<bool, AllocFailed<(Rank, Action)>> {
-        let heap = self.heap;
+    // A commit was granted: the site's pending actions are committed. Answers whether they are all new.
+    pub(crate) fn commit(&mut self, site: u8) -> Result<bool, AllocError> {
         let Some(page) = self.page_mut(site) else {
             return Ok(true);
         };
-        let pending = std::mem::replace(&mut page.pending, Vec::new(heap));
-        for action in pending.iter() {
-            page.raise(action.article, site, action.time);
-        }
+        let pending = std::mem::try_take(&mut page.pending)?;
         let mut are_new = true;
         for action in pending {
             are_new = self.enter(action)? && are_new;
