@@ -1,4 +1,4 @@
-ghost use Rattle.std.specs.Prelude.{◌≡◌, ◌<◌, ◌∷◌, length};
+ghost use Rattle.std.specs.Prelude.{◌≡◌, ◌<◌, ◌==◌, ◌∷◌, length};
 ghost use Rattle.std.specs.Iterator.{YieldsFirstRef, item_count};
 ghost use Rattle.script.specs.Desk.{desk_view};
 ghost use Rattle.script.specs.Scripts.{Scripted, lines};
@@ -9,12 +9,19 @@ use std::alloc::AllocError;
 // The most that is read of a script.
 pub const LONGEST_SCRIPT: usize = 32_768;
 
+// Does the byte end a line?
+fn ends_line(byte: u8) -> bool
+    ensures { result ≡ (byte == 10) }
+{
+    byte == b'\n'
+}
+
 // The first line, without the byte that ends it, and what comes after that byte.
 fn split_line(text: &[u8]) -> (&[u8], &[u8])
     requires { 0 < length text.now }
     ensures lines { lines text.now ≡ result.0.now ∷ lines result.1.now }
 {
-    match text.iter().position(|byte| *byte == b'\n') {
+    match text.iter().position(|byte| ends_line(*byte)) {
         Some(end) => (&text[..end], &text[end + 1..]),
         None => (text, &[]),
     }
