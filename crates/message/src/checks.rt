@@ -1,10 +1,18 @@
+ghost use Rattle.std.specs.Prelude.{◌≡◌};
 ghost use Rattle.message.specs.Checks.{Accepted, Accepts, Longest, Refused, Unique};
-ghost use Rattle.message.specs.Reading.{Scanned};
+ghost use Rattle.message.specs.Reading.{Scanned, is_action};
 
 use crate::cursor::Reader;
 use crate::faults::ReaderFault;
+use crate::records::Record;
 use action::Setup;
 use kind::Kind;
+
+fn is_action(read: &Record) -> bool
+    ensures { result ≡ is_action read.now }
+{
+    matches!(read, Record::Action(_))
+}
 
 // Reads all the bytes as one message, and answers how many actions it carries. Each record may be
 // refused, so they are counted in a loop with `?`.
@@ -14,7 +22,7 @@ fn scan<K: Kind>(setup: Setup, bytes: &[u8]) -> Result<usize, ReaderFault>
     let mut reader = Reader::new(setup, bytes);
     let mut actions = 0;
     while let Some(found) = reader.next::<K>()? {
-        if found.record.action().is_some() {
+        if is_action(&found.record) {
             actions += 1;
         }
     }

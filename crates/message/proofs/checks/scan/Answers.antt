@@ -1,5 +1,4 @@
-use Rattle.std.proofs.Common.{◌≡◌, ℕ, true, false, Ok, count_by, sym, refl, ap, ◌∙◌, subst, arith}
-use Rattle.std.specs.Option.{is_some}
+use Rattle.std.proofs.Common.{◌≡◌, ℕ, true, false, Ok, count_by, sym, refl, ◌∙◌, subst, arith}
 use Rattle.message.specs.Reading.{Begun, Scanned, is_action}
 use Rattle.message.proofs.Steps.{begun_none, count_more, read_all, record_size}
 use Rattle.message.proofs.checks.scan.Goals as goal
@@ -17,8 +16,8 @@ loop-found-init g c =
       subst (λ p. (b : Begun kind reader.setup bytes reader.at p) × (◌≡◌ {A = ℕ} 0 (count_by is_action b.records))) (sym e.progress) (subst (λ (n : ℕ). (b : Begun kind reader.setup bytes n _) × (◌≡◌ {A = ℕ} 0 (count_by is_action b.records))) (sym e.at) (start, refl)),
     )
 
-pub loop-found-preserved-then-is_some : goal.loop-found-preserved-then-is_some
-loop-found-preserved-then-is_some g c =
+pub loop-found-preserved-then-is_action : goal.loop-found-preserved-then-is_action
+loop-found-preserved-then-is_action g c =
     let reader = c.loop-found.reader in
     let inv = c.loop-found.invariant in
     let f = c.in-Some.found in
@@ -26,7 +25,7 @@ loop-found-preserved-then-is_some g c =
       c.next.ensures.setup ∙ inv.0,
       c.next.ensures.bytes ∙ inv.1,
       omega (arith, next.2, record_size f.«record»),
-      count_more g.K.Kind.means _ _ (λ i. (c.type_inv.bytes i).fits) _ inv.0 _ inv.1 _ _ _ _ f _ inv.3 next true (c.if-is_some.ensures ∙ ap is_some c.action.ensures),
+      count_more g.K.Kind.means _ _ (λ i. (c.type_inv.bytes i).fits) _ inv.0 _ inv.1 _ _ _ _ f _ inv.3 next true c.if-is_action.ensures,
     )
 
 pub loop-found-preserved : goal.loop-found-preserved
@@ -38,7 +37,7 @@ loop-found-preserved g c =
       c.next.ensures.setup ∙ inv.0,
       c.next.ensures.bytes ∙ inv.1,
       omega (arith, next.2),
-      count_more g.K.Kind.means _ _ (λ i. (c.type_inv.bytes i).fits) _ inv.0 _ inv.1 _ _ _ _ f _ inv.3 next false (c.if-is_some.ensures ∙ ap is_some c.action.ensures),
+      count_more g.K.Kind.means _ _ (λ i. (c.type_inv.bytes i).fits) _ inv.0 _ inv.1 _ _ _ _ f _ inv.3 next false c.if-is_action.ensures,
     )
 
 pub returns : goal.returns
