@@ -6,7 +6,8 @@ use crate::faults::ReaderFault;
 use action::Setup;
 use kind::Kind;
 
-// Reads all the bytes as one message, and answers how many actions it carries.
+// Reads all the bytes as one message, and answers how many actions it carries. Each record may be
+// refused, so they are counted in a loop with `?`.
 fn scan<K: Kind>(setup: Setup, bytes: &[u8]) -> Result<usize, ReaderFault>
     ensures { Scanned K.means setup bytes.now result }
 {

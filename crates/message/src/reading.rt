@@ -55,7 +55,7 @@ pub struct Stretch {
 }
 
 impl Progress {
-    // Nothing read yet.
+    // Nothing read yet. No `Default`, since an action has none.
     pub fn start() -> Progress
         ensures { result ≡ start }
     {

@@ -19,7 +19,8 @@ fn put_bytes(buffer: &mut [u8], at: usize, bytes: &[u8]) -> Option<usize>
 }
 
 // Puts one record at a place of the buffer, and answers the place after it; or `None`, and the
-// buffer stays, where it does not fit.
+// buffer stays, where it does not fit. A struct with the buffer lent to it would make each caller's
+// clauses follow the loan, so the place is passed on.
 pub fn put(buffer: &mut [u8], at: usize, record: Record) -> Option<usize>
     ensures { Put buffer.old at (record_bytes «record») result buffer.new }
 {
