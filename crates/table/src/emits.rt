@@ -4,7 +4,8 @@ ghost use Rattle.message.specs.Format.{record_bytes};
 
 use message::{Record, put};
 
-// Puts a record that is known to fit, and answers the place after it.
+// Puts a record that is known to fit, and answers the place after it. The place is no field beside the
+// buffer: a struct that borrows the buffer has to say in each contract what it leaves of it.
 pub(crate) fn emit(buffer: &mut [u8], at: usize, record: Record) -> usize
     requires { at + length (record_bytes «record») ≤ length buffer.old }
     ensures end { result ≡ at + length (record_bytes «record») }

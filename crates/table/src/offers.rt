@@ -71,7 +71,8 @@ impl Offer {
         at
     }
 
-    // Puts the actions that the offer carries.
+    // Puts the actions that the offer carries. Apart from `put_on`, since one function over any iterator
+    // would have to ask what each of its runs may yield.
     fn put_actions<H: History>(
         self,
         state: &State,

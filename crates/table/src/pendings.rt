@@ -21,25 +21,32 @@ pub(crate) struct Size {
     pub(crate) length: usize,
 }
 
-// How many of the actions are on the article.
+// How many of the actions are on the article. By a loop, and so is the next: chains of iterators make a
+// commit of 16 actions a seventh slower.
 fn count_on(actions: &[Action], article: u8) -> usize
     ensures value { result ≡ length (on article actions.now) }
     ensures few { result ≤ length actions.now }
 {
-    actions
-        .iter()
-        .filter(|action| action.article == article)
-        .count()
+    let mut count = 0;
+    for action in actions {
+        if action.article == article {
+            count += 1;
+        }
+    }
+    count
 }
 
 // The last time on the article, 0 where there is none.
 fn latest_on(actions: &[Action], article: u8) -> u32
     ensures { result ≡ latest article actions.now }
 {
-    actions
-        .iter()
-        .filter(|action| action.article == article)
-        .fold(0, |last, action| last.max(action.time))
+    let mut last: u32 = 0;
+    for action in actions {
+        if action.article == article {
+            last = last.max(action.time);
+        }
+    }
+    last
 }
 
 // Puts those of the actions that are on the article.
@@ -58,9 +65,10 @@ fn put_on(actions: &[Action], article: u8, buffer: &mut [u8], start: usize) -> u
 }
 
 impl State {
-    // Puts the section of an article that was written.
-    fn put_section(&self, article: u8, buffer: &mut [u8], start: usize) -> usize
-        requires { start + length (section_format (transaction_section (bare self.now) article)) ≤ length buffer.old }
+    // Puts the section of an article that has so many pending actions.
+    fn put_section(&self, article: u8, count: usize, buffer: &mut [u8], start: usize) -> usize
+        requires counted { (count ≡ length (on article (bare self.now).pending)) × (count ≤ 16) }
+        requires room { start + length (section_format (transaction_section (bare self.now) article)) ≤ length buffer.old }
         ensures end { result ≡ start + length (section_format (transaction_section (bare self.now) article)) }
         ensures bytes { buffer.new ≡ overwritten buffer.old start (section_format (transaction_section (bare self.now) article)) }
     {
@@ -70,7 +78,7 @@ impl State {
         let head = SectionHead {
             article,
             intervals: 1,
-            actions: count_on(pending, article) as u16,
+            actions: count as u16,
         };
         let interval = Interval {
             site: own,
@@ -113,7 +121,7 @@ impl State {
         for article in 0..self.ledger.setup.articles {
             let count = count_on(pending, article);
             if count > 0 {
-                at = self.put_section(article, buffer, at);
+                at = self.put_section(article, count, buffer, at);
             }
         }
     }

@@ -35,8 +35,7 @@ returns c =
     let end₁ : c.emit-at.result ≡ start + 5 = c.emit-at.ensures.end in
     let end₂ : c.emit-at-2.result ≡ c.emit-at.result + 10 = c.emit-at-2.ensures.end in
     let end₃ = c.put_on.ensures.end ∙ ap (λ l. c.emit-at-2.result + 16 * length (on a l)) pending in
-    let count = c.count_on.ensures.value ∙ ap (λ l. length (on a l)) pending in
-    let first : c.emit-at.new.buffer ≡ overwritten b start S = c.emit-at.ensures.bytes ∙ ap (λ n. overwritten b start (section_bytes (record { article = a; intervals = 1; actions = n }))) count in
+    let first : c.emit-at.new.buffer ≡ overwritten b start S = c.emit-at.ensures.bytes ∙ ap (λ n. overwritten b start (section_bytes (record { article = a; intervals = 1; actions = n }))) c.requires.counted.0 in
     let from : c.entry-before.result ≡ entry v a own own = c.entry-before.ensures in
     let last : c.latest_on.result ≡ latest a v.pending = c.latest_on.ensures ∙ ap (latest a) pending in
     let to : c.max.result ≡ max (entry v a own own) (latest a v.pending) = c.max.ensures ∙ (λ i. max (from i) (last i)) in
