@@ -26,10 +26,9 @@ mod walks;
 
 use crate::makes::Stranger;
 use crate::plays::play_run;
-use crate::reports::{Broken, Counts};
+use crate::reports::Counts;
 use crate::stops::Stop;
 use kind::{Flags, Kind, OnHand, Price};
-use std::alloc::Global;
 use std::io;
 
 // What the program is asked for.
@@ -42,7 +41,7 @@ struct Wish {
 
 // A run of one kind; `J` is another one.
 fn play_kind<K: Kind + Drop, J: Kind + Drop>(
-    heap: Global,
+    rt: &HostRuntime,
     counts: &mut Counts,
     run: u32,
     wish: Wish,
@@ -50,20 +49,20 @@ fn play_kind<K: Kind + Drop, J: Kind + Drop>(
     let Wish { seed, lines, .. } = wish;
     let seed = seed.wrapping_mul(1_000_003).wrapping_add(u64::from(run));
     match run / 3 % 3 {
-        0 => play_run::<K, K>(heap, counts, seed, Stranger::OtherGroup, lines),
-        1 => play_run::<K, J>(heap, counts, seed, Stranger::OtherKind, lines),
-        _ => play_run::<K, K>(heap, counts, seed, Stranger::Twin, lines),
+        0 => play_run::<K, K>(rt, counts, seed, Stranger::OtherGroup, lines),
+        1 => play_run::<K, J>(rt, counts, seed, Stranger::OtherKind, lines),
+        _ => play_run::<K, K>(rt, counts, seed, Stranger::Twin, lines),
     }
 }
 
 // All runs, until one is not as it has to be. The kinds take turns.
-fn play_all(heap: Global, counts: &mut Counts, wish: Wish) -> Result<(), Stop> {
+fn play_all(rt: &HostRuntime, counts: &mut Counts, wish: Wish) -> Result<(), Stop> {
     for run in 0..wish.runs {
         counts.begin(run);
         match run % 3 {
-            0 => play_kind::<OnHand, Flags>(heap, counts, run, wish)?,
-            1 => play_kind::<Flags, Price>(heap, counts, run, wish)?,
-            _ => play_kind::<Price, OnHand>(heap, counts, run, wish)?,
+            0 => play_kind::<OnHand, Flags>(rt, counts, run, wish)?,
+            1 => play_kind::<Flags, Price>(rt, counts, run, wish)?,
+            _ => play_kind::<Price, OnHand>(rt, counts, run, wish)?,
         }
         if counts.is_broken() {
             return Err(Stop::Broken);
@@ -73,18 +72,7 @@ fn play_all(heap: Global, counts: &mut Counts, wish: Wish) -> Result<(), Stop> {
 }
 
 // Says how the runs went.
-fn print_outcome(rt: &HostRuntime, counts: &Counts, wish: Wish, is_whole: bool) -> io::Result<()> {
-    let Wish { seed, runs, lines } = wish;
-    println!(rt; "seed {seed}, {runs} runs of {lines} lines and more")?;
-    if let Some(broken) = counts.broken {
-        let Broken {
-            law,
-            run,
-            line,
-            site,
-        } = broken;
-        println!(rt; "broken: {law} (seed {seed}, run {run}, line {line}, site {site})")?;
-    }
+fn print_outcome(rt: &HostRuntime, counts: &Counts, is_whole: bool) -> io::Result<()> {
     println!(rt; "{counts}")?;
     if !is_whole {
         return println!(rt; "stopped before the end");
@@ -117,9 +105,11 @@ fn read_wish(rt: &HostRuntime) -> io::Result<Wish> {
 
 fn main(rt: HostRuntime) -> Result<(), Stop> {
     let wish = read_wish(&rt)?;
-    let mut counts = Counts::default();
-    let outcome = play_all(rt.alloc(), &mut counts, wish);
-    let printed = print_outcome(&rt, &counts, wish, outcome.is_ok());
+    let Wish { seed, runs, lines } = wish;
+    println!(rt; "seed {seed}, {runs} runs of {lines} lines and more")?;
+    let mut counts = Counts::new(seed);
+    let outcome = play_all(&rt, &mut counts, wish);
+    let printed = print_outcome(&rt, &counts, outcome.is_ok());
     outcome?;
     printed?;
     Ok(())

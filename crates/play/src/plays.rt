@@ -8,7 +8,6 @@ use crate::seats::Ending;
 use crate::slots::Space;
 use crate::stops::Stop;
 use kind::Kind;
-use std::alloc::Global;
 
 // A call that goes by a ticket.
 #[derive(Clone, Copy)]
@@ -150,16 +149,19 @@ impl<K: Kind + Drop, J: Kind + Drop> Run<K, J> {
     }
 }
 
-// One run.
+// One run. What is broken is said before the tables are let go, since a table with a fault might refuse its own ticket.
 pub(crate) fn play_run<K: Kind + Drop, J: Kind + Drop>(
-    heap: Global,
+    rt: &HostRuntime,
     counts: &mut Counts,
     seed: u64,
     stranger: Stranger,
     lines: u32,
 ) -> Result<(), Stop> {
-    let mut run = make_run::<K, J>(heap, seed, stranger, *counts)?;
+    let mut run = make_run::<K, J>(rt.alloc(), seed, stranger, *counts)?;
     let outcome = run.play(lines);
     *counts = run.counts;
+    if let Some(broken) = counts.broken {
+        println!(rt; "broken: {broken}")?;
+    }
     outcome
 }

@@ -46,14 +46,32 @@ impl fmt::Display for Law {
 // Where a run first was not as it has to be.
 #[derive(Clone, Copy)]
 pub(crate) struct Broken {
-    pub(crate) law: Law,
-    pub(crate) run: u32,
-    pub(crate) line: u32,
-    pub(crate) site: u8,
+    law: Law,
+    seed: u64,
+    run: u32,
+    line: u32,
+    site: u8,
+}
+
+impl fmt::Display for Broken {
+    fn fmt<W: fmt::Write>(&self, f: &mut fmt::Formatter<W>) -> fmt::Result {
+        let Broken {
+            law,
+            seed,
+            run,
+            line,
+            site,
+        } = *self;
+        write!(
+            f,
+            "{law} (seed {seed}, run {run}, line {line}, site {site})"
+        )
+    }
 }
 
 #[derive(Clone, Copy, Default)]
 pub(crate) struct Counts {
+    seed: u64,
     run: u32,
     // The number of the line within its run.
     line: u32,
@@ -77,6 +95,13 @@ pub(crate) fn up(count: &mut u64, by: usize) {
 }
 
 impl Counts {
+    pub(crate) fn new(seed: u64) -> Counts {
+        Counts {
+            seed,
+            ..Counts::default()
+        }
+    }
+
     pub(crate) fn begin(&mut self, run: u32) {
         self.run = run;
         self.line = 0;
@@ -101,6 +126,7 @@ impl Counts {
         if !is_kept && self.broken.is_none() {
             self.broken = Some(Broken {
                 law,
+                seed: self.seed,
                 run: self.run,
                 line: self.line,
                 site,
