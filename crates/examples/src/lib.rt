@@ -9,15 +9,6 @@ ghost use Rattle.examples.specs.Table.{Holds, at, doing, examples};
 use action::Action;
 use kind::{Flags, Kind, OnHand, Price};
 
-// The operations of the three kinds.
-const ADD: u8 = 1;
-
-const SWITCH_ON: u8 = 1;
-
-const SET: u8 = 1;
-
-const RAISE: u8 = 2;
-
 // An action of which only the pair matters.
 fn doing(operation: u8, amount: i32) -> Action
     ensures { result ≡ doing (operation, amount) }
@@ -45,10 +36,10 @@ fn on_hand_holds() -> bool
     ensures { result ≡ true }
 {
     let moves = [
-        doing(ADD, 1000),
-        doing(ADD, 500),
-        doing(ADD, -200),
-        doing(ADD, -200),
+        doing(OnHand::ADD, 1000),
+        doing(OnHand::ADD, 500),
+        doing(OnHand::ADD, -200),
+        doing(OnHand::ADD, -200),
     ];
     worked::<OnHand>(OnHand::start(), &moves) == 1100
 }
@@ -57,8 +48,8 @@ fn on_hand_holds() -> bool
 fn set_prices_hold() -> bool
     ensures { result ≡ true }
 {
-    let set = doing(SET, 10_000);
-    let raise = doing(RAISE, 50);
+    let set = doing(Price::SET, 10_000);
+    let raise = doing(Price::RAISE, 50);
     worked::<Price>(Price::start(), &[set, raise]) == 10_500
         && worked::<Price>(Price::start(), &[raise, set]) == 10_000
 }
@@ -66,15 +57,15 @@ fn set_prices_hold() -> bool
 fn raised_prices_hold() -> bool
     ensures { result ≡ true }
 {
-    worked::<Price>(333, &[doing(RAISE, 15)]) == 337
-        && worked::<Price>(1, &[doing(RAISE, -500)]) == 0
-        && worked::<Price>(99_999_999, &[doing(RAISE, 1)]) == 99_999_999
+    worked::<Price>(333, &[doing(Price::RAISE, 15)]) == 337
+        && worked::<Price>(1, &[doing(Price::RAISE, -500)]) == 0
+        && worked::<Price>(99_999_999, &[doing(Price::RAISE, 1)]) == 99_999_999
 }
 
 fn flags_hold() -> bool
     ensures { result ≡ true }
 {
-    worked::<Flags>(5, &[doing(SWITCH_ON, 6)]) == 7
+    worked::<Flags>(5, &[doing(Flags::SWITCH_ON, 6)]) == 7
 }
 
 // An action of which only the time and the site matter.

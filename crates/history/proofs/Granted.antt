@@ -1,11 +1,10 @@
 -- Where a history does not refuse. Assumes nothing.
-use Rattle.std.proofs.Common.{◌≡◌, ℕ, ◌<◌, ◌≤◌, List, length, get_or, Some, Ok, Err, Result, refl, arith}
+use Rattle.std.proofs.Common.{◌≡◌, ℕ, ◌<◌, ◌≤◌, List, length, get_or, Ok, Err, Result, refl, arith}
 use Rattle.std.specs.List.{insert, remove}
 use Rattle.std.proofs.lemmas.Bool.Decides.{nat_tests}
 use Rattle.action.specs.declared.orders.Action.{Action}
-use Rattle.action.specs.declared.refusals.Refusal.{Refusal}
 use Rattle.history.specs.declared.faults.HistoryFault.{HistoryFault}
-use Rattle.history.specs.Changes.{Inserted, Read, Removed, insert_refusal}
+use Rattle.history.specs.Changes.{Inserted, Read, Removed}
 
 pub granted_read : (xs : List Action) (i : ℕ) (r : Result Action HistoryFault) → i < length xs → Read xs i r → (a : Action) × (r ≡ Ok a) × (a ≡ get_or xs i a)
 granted_read xs i (Ok a) within h = (a, refl, h.1)
@@ -18,6 +17,3 @@ granted_insert xs room i a (Err e) ys free within h = absurd (grind (arith, nat_
 pub granted_remove : (xs : List Action) (i : ℕ) (r : Result Action HistoryFault) (ys : List Action) → i < length xs → Removed xs i r ys → ys ≡ remove xs i
 granted_remove xs i (Ok a) ys within h = h.2
 granted_remove xs i (Err e) ys within h = absurd (grind (arith, nat_tests))
-
-pub refused_insert : (xs : List Action) (room i : ℕ) (e : Refusal) → length xs < room → i ≤ length xs → insert_refusal xs room i ≡ Some e → ⊥
-refused_insert xs room i e free within h = grind (arith, nat_tests)

@@ -9,7 +9,10 @@ use crate::interface::Kind;
 #[derive(Clone, Copy, Debug, PartialEq, Eq)]
 pub struct Flags;
 
-const SWITCH_ON: u8 = 1;
+impl Flags {
+    // The operation that switches flags on, those of the amount.
+    pub const SWITCH_ON: u8 = 1;
+}
 
 // All 24 flags.
 const ALL_FLAGS: i32 = 16_777_215;
@@ -40,7 +43,7 @@ impl Kind for Flags {
     ghost commute = { λ f o a p b fits c x y. flags_commute f o a p b fits x y };
 
     fn is_known(operation: u8, amount: i32) -> bool {
-        operation == SWITCH_ON && (1..=ALL_FLAGS).contains(&amount)
+        operation == Self::SWITCH_ON && (1..=ALL_FLAGS).contains(&amount)
     }
 
     fn step(figure: i64, operation: u8, amount: i32) -> i64 {

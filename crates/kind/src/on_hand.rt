@@ -9,7 +9,10 @@ use crate::interface::Kind;
 #[derive(Clone, Copy, Debug, PartialEq, Eq)]
 pub struct OnHand;
 
-const ADD: u8 = 1;
+impl OnHand {
+    // The operation that adds the amount.
+    pub const ADD: u8 = 1;
+}
 
 // The most that one action may add or take away.
 const MOST_MOVED: i32 = 1_000_000;
@@ -40,7 +43,7 @@ impl Kind for OnHand {
     ghost commute = { λ f o a p b fits c x y. on_hand_commutes f o a p b x y };
 
     fn is_known(operation: u8, amount: i32) -> bool {
-        operation == ADD && (-MOST_MOVED..=MOST_MOVED).contains(&amount)
+        operation == Self::ADD && (-MOST_MOVED..=MOST_MOVED).contains(&amount)
     }
 
     fn step(figure: i64, operation: u8, amount: i32) -> i64 {

@@ -12,9 +12,13 @@ use crate::interface::Kind;
 #[derive(Clone, Copy, Debug, PartialEq, Eq)]
 pub struct Price;
 
-const SET: u8 = 1;
+impl Price {
+    // The operation that sets the price to the amount.
+    pub const SET: u8 = 1;
 
-const RAISE: u8 = 2;
+    // The operation that raises it by so many thousandths.
+    pub const RAISE: u8 = 2;
+}
 
 const HIGHEST: i64 = 99_999_999;
 
@@ -36,8 +40,10 @@ fn change_of(operation: u8, amount: i32) -> Option<Change>
 {
     let amount = i64::from(amount);
     match operation {
-        SET if (0..=HIGHEST).contains(&amount) => Some(Change::Set(amount)),
-        RAISE if (-MOST_RAISED..=MOST_RAISED).contains(&amount) => Some(Change::Raise(amount)),
+        Price::SET if (0..=HIGHEST).contains(&amount) => Some(Change::Set(amount)),
+        Price::RAISE if (-MOST_RAISED..=MOST_RAISED).contains(&amount) => Some(Change::Raise(
+            amount,
+        )),
         _ => None,
     }
 }

@@ -1,10 +1,7 @@
 -- One write after another. Assumes nothing.
-use Rattle.std.proofs.Common.{◌≡◌, ℕ, ◌+◌, ◌≤◌, List, [], ◌++◌, length, take, drop, sym, ap, ◌∙◌, add_assoc, arith}
-use Rattle.std.proofs.lemmas.List.{append_assoc, drop_at, drop-drop, length-append, length-take-le, take_at, take-append-drop}
+use Rattle.std.proofs.Common.{◌≡◌, ℕ, ◌+◌, ◌≤◌, List, ◌++◌, length, take, drop, sym, ap, ◌∙◌, add_assoc, arith}
+use Rattle.std.proofs.lemmas.List.{append_assoc, drop_at, drop-drop, length-append, length-take-le, take_at}
 use Rattle.message.specs.Buffer.{overwritten}
-
-pub overwritten_none : (b : List ℕ) (at : ℕ) → overwritten b at [] ≡ b
-overwritten_none b at = ap (λ n. take at b ++ drop n b) (omega arith) ∙ take-append-drop at b
 
 module _ (b : List ℕ) (at : ℕ) (xs : List ℕ) (fits : at + length xs ≤ length b) where
   front : length (take at b ++ xs) ≡ at + length xs

@@ -1,17 +1,16 @@
 -- The records that bytes hold, one by one. Assumes nothing.
-use Rattle.std.proofs.Common.{◌≡◌, ℕ, zero, suc, ◌+◌, ◌≤◌, Bool, cond, List, [], ◌∷◌, ◌++◌, length, drop, Some, None, Option, sym, refl, ap, ◌∙◌, arith}
+use Rattle.std.proofs.Common.{◌≡◌, ℕ, zero, suc, ◌+◌, ◌≤◌, List, [], ◌∷◌, ◌++◌, length, drop, Some, None, Option, sym, refl, ap, ◌∙◌, arith}
 use Rattle.std.specs.List.{flat_map, AllByRecursion}
 use Rattle.std.proofs.lemmas.List.{drop_at, drop-drop, length-drop, nil_from_length}
 use Rattle.action.specs.declared.setups.Setup.{Setup}
 use Rattle.kind.specs.Meaning.{Meaning}
 use Rattle.message.specs.declared.reading.Due.TheVariants as Due
-use Rattle.message.specs.declared.records.Interval.{Interval}
 use Rattle.message.specs.declared.records.Record.{Record}
 use Rattle.message.specs.declared.records.Record.TheVariants as RecordKinds
 use Rattle.message.specs.Fields.{Fitting}
 use Rattle.message.specs.Format.{Message, format, record_bytes, records}
 use Rattle.message.specs.Lawful.{LawfulMessage}
-use Rattle.message.specs.Walks.{article_after, first_of, interval_in, intervals_of, next_records, record_in, records_by, records_in, whole}
+use Rattle.message.specs.Walks.{next_records, record_in, records_by, records_in, whole}
 use Rattle.message.proofs.Sameness.{lawful_fits}
 use Rattle.message.proofs.Decodings.{decoded_format}
 use Rattle.message.proofs.Steps.{record_size}
@@ -37,10 +36,6 @@ records_next (b ∷ bs) r h =
     let size = length (record_bytes r) in
     ap (next_records (records_by (length bs)) (b ∷ bs)) h ∙ ap (λ l. r ∷ l) (turns (length bs) (length (drop size (b ∷ bs))) (drop size (b ∷ bs)) (omega (arith, length-drop size (b ∷ bs), record_size r)) (omega arith))
 
-pub records_end : (bs : List ℕ) → record_in bs ≡ None → records_in bs ≡ []
-records_end [] h = refl
-records_end (b ∷ bs) h = ap (next_records (records_by (length bs)) (b ∷ bs)) h
-
 -- the first of the records is the one that the bytes begin with
 pub record_begins : (bs : List ℕ) (r : Record) (rs : List Record) → records_in bs ≡ r ∷ rs → record_in bs ≡ Some r
 record_begins [] r rs h = cc
@@ -53,35 +48,6 @@ record_begins (b ∷ bs) r rs h = go (record_in (b ∷ bs)) h
 -- the same at a place of the bytes
 pub records_from : (bs : List ℕ) (at : ℕ) (r : Record) → record_in (drop at bs) ≡ Some r → records_in (drop at bs) ≡ r ∷ records_in (drop (at + length (record_bytes r)) bs)
 records_from bs at r h = records_next (drop at bs) r h ∙ ap (λ l. r ∷ records_in l) (drop-drop (length (record_bytes r)) at bs)
-
--- WHAT A LOOP OVER THE RECORDS HAS LEFT, FROM ONE RECORD TO THE NEXT
-
-module _ (rs : List Record) where
-  module _ (a : ℕ) where
-    pub intervals_some : (r : Record) (i : Interval) → interval_in r ≡ Some i → intervals_of a (r ∷ rs) ≡ (a, i) ∷ intervals_of (article_after a r) rs
-    intervals_some (RecordKinds.Header h) i e = cc
-    intervals_some (RecordKinds.Section s) i e = cc
-    intervals_some (RecordKinds.Interval j) i e = let same : j ≡ i = cc in ap (λ j. (a, j) ∷ intervals_of a rs) same
-    intervals_some (RecordKinds.Action y) i e = cc
-
-    pub intervals_none : (r : Record) → interval_in r ≡ None → intervals_of a (r ∷ rs) ≡ intervals_of (article_after a r) rs
-    intervals_none (RecordKinds.Header h) e = refl
-    intervals_none (RecordKinds.Section s) e = refl
-    intervals_none (RecordKinds.Interval j) e = cc
-    intervals_none (RecordKinds.Action y) e = refl
-
-    module _ (test : ℕ → Interval → Bool) (at : ℕ) where
-      pub first_some : (r : Record) (i : Interval) → interval_in r ≡ Some i → first_of test at a (r ∷ rs) ≡ cond (test a i) (Some at) (first_of test (at + length (record_bytes r)) (article_after a r) rs)
-      first_some (RecordKinds.Header h) i e = cc
-      first_some (RecordKinds.Section s) i e = cc
-      first_some (RecordKinds.Interval j) i e = let same : j ≡ i = cc in ap (λ j. cond (test a j) (Some at) (first_of test (at + 10) a rs)) same
-      first_some (RecordKinds.Action y) i e = cc
-
-      pub first_none : (r : Record) → interval_in r ≡ None → first_of test at a (r ∷ rs) ≡ first_of test (at + length (record_bytes r)) (article_after a r) rs
-      first_none (RecordKinds.Header h) e = refl
-      first_none (RecordKinds.Section s) e = refl
-      first_none (RecordKinds.Interval j) e = cc
-      first_none (RecordKinds.Action y) e = refl
 
 -- a record's own bytes begin with that record
 pub record_first : (r : Record) (more : List ℕ) → Fitting r → record_in (record_bytes r ++ more) ≡ Some r

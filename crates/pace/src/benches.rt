@@ -9,9 +9,6 @@ use std::alloc::{AllocError, Global};
 use std::ops::Range;
 use table::Table;
 
-// The operation that adds an amount.
-const ADD: u8 = 1;
-
 // How many articles there are.
 const ARTICLES: u8 = 4;
 
@@ -81,7 +78,7 @@ impl<H: History> Bench<H> {
             let article = (number % 4) as u8;
             let amount = (number % 1000) as i32 - 500;
             // Granted or refused, the ticket stays the table's.
-            let _ = self.table.write(&ticket, article, ADD, amount);
+            let _ = self.table.write(&ticket, article, OnHand::ADD, amount);
         }
         let length = match self.table.commit(ticket, &mut self.buffer) {
             Ok((_, length)) => length,

@@ -12,9 +12,6 @@ use history::History;
 use kind::OnHand;
 use table::{Table, TableFault, Ticket};
 
-// The operation that adds an amount.
-const ADD: u8 = 1;
-
 // Abandons the open transaction, and hands on why. That is not refused, since the ticket is the
 // table's own.
 fn give_up<H: History>(table: &mut Table<OnHand, H>, ticket: Ticket, fault: TableFault) -> LineFault
@@ -37,7 +34,7 @@ pub(crate) fn move_stock<H: History>(
     ensures { Moved table.old article amount (held slot.old) result table.new (held slot.new) }
 {
     let ticket = table.open()?;
-    let time = match table.write(&ticket, article, ADD, amount) {
+    let time = match table.write(&ticket, article, OnHand::ADD, amount) {
         Ok(time) => time,
         Err(fault) => return Err(give_up(table, ticket, fault)),
     };

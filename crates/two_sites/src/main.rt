@@ -19,8 +19,8 @@ fn post<H: History>(
     ensures { IfOk result (λ n. n ≤ length buffer.old) }
 {
     let ticket = table.open()?;
-    // Operation 1 adds. What is refused hands the ticket back.
-    let posted = match table.write(&ticket, 0, 1, amount) {
+    // What is refused hands the ticket back.
+    let posted = match table.write(&ticket, 0, OnHand::ADD, amount) {
         Ok(_) => table.commit(ticket, buffer),
         Err(fault) => Err((fault, ticket)),
     };
