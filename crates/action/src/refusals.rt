@@ -8,7 +8,7 @@ pub enum Layer {
 
 // Why a call was refused, in the form that all layers share: the refusal's number, the place that
 // it names (0 where it names none) and its layer. Each layer has an enum of its faults; the number is
-// what users and C are shown.
+// what users and C are shown. Layers write it out, since a call of three arguments would not name them.
 #[derive(Clone, Copy, Debug, PartialEq, Eq)]
 pub struct Refusal {
     pub number: u8,

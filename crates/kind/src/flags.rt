@@ -10,7 +10,7 @@ use crate::interface::Kind;
 pub struct Flags;
 
 impl Flags {
-    // The operation that switches flags on, those of the amount.
+    // The operation that switches flags on, those of the amount. An enum of this one would say no more.
     pub const SWITCH_ON: u8 = 1;
 }
 

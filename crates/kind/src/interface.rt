@@ -5,6 +5,7 @@ ghost use Rattle.kind.specs.Meaning.{Meaning};
 // A kind of figure. A figure is a signed number of 64 bits. An action changes it by an operation, from
 // 0 to 255, and an amount, a signed number of 32 bits; each kind knows some of these pairs.
 pub trait Kind {
+    // How messages name the kind: a number and no enum, since anyone may add a kind.
     const KIND_NUMBER: u8;
 
     const START_FIGURE: i64;

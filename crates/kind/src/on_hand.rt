@@ -10,7 +10,7 @@ use crate::interface::Kind;
 pub struct OnHand;
 
 impl OnHand {
-    // The operation that adds the amount.
+    // The operation that adds the amount. An enum of this one would say no more.
     pub const ADD: u8 = 1;
 }
 

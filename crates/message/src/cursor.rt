@@ -8,6 +8,7 @@ use action::Setup;
 pub struct Reader<'a> {
     pub(crate) setup: Setup,
     pub(crate) bytes: &'a [u8],
+    // Counted on, since each record is answered with its place.
     pub(crate) at: usize,
     pub(crate) progress: Progress,
     ghost within: { at ≤ length bytes.now },

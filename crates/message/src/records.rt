@@ -4,6 +4,7 @@ use action::Action;
 #[derive(Clone, Copy, Debug, PartialEq, Eq)]
 pub struct Header {
     pub group: u16,
+    // By its number, since anyone may add a kind.
     pub kind: u8,
     pub sender: u8,
     pub sections: u8,

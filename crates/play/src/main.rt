@@ -30,6 +30,7 @@ use crate::reports::Counts;
 use crate::stops::Stop;
 use kind::{Flags, Kind, OnHand, Price};
 use std::io;
+use std::io::Read;
 
 // What the program is asked for.
 #[derive(Clone, Copy)]
@@ -87,12 +88,23 @@ fn print_outcome(rt: &HostRuntime, counts: &Counts, is_whole: bool) -> io::Resul
     println!(rt; "laws hold: a {figures}, b {levels} ({moved_levels} with actions), c {repeats}")
 }
 
-// Reads what is wanted: a seed, how many runs, and how many lines each has. What is missing is 0.
+// The number that digits write.
+fn number(digits: &[u8]) -> u64 {
+    digits.iter().fold(0, |number: u64, digit| {
+        let digit = u64::from(digit.wrapping_sub(b'0'));
+        number.wrapping_mul(10).wrapping_add(digit)
+    })
+}
+
+// Reads what is wanted: a seed, how many runs, and how many lines each has, each a run of digits. What is
+// missing is 0.
 fn read_wish(rt: &HostRuntime) -> io::Result<Wish> {
-    let text = io::read_to_string(rt.alloc(), rt.stdin())?;
-    let mut numbers = text
-        .split_whitespace()
-        .map(|word| word.parse::<u64>().unwrap_or(0));
+    let mut text = [0; 256];
+    let length = rt.stdin().read(&mut text)?;
+    let mut numbers = text[..length]
+        .split(|byte| !byte.is_ascii_digit())
+        .filter(|digits| !digits.is_empty())
+        .map(number);
     let seed = numbers.next().unwrap_or(0);
     let runs = numbers.next().unwrap_or(0);
     let lines = numbers.next().unwrap_or(0);

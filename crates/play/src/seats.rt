@@ -56,10 +56,7 @@ fn put_back(hand: &mut Option<Ticket>, ticket: Ticket)
 fn give_up<K: Kind, H: History>(table: &mut Table<K, H>, ticket: Ticket)
     requires { holds K.means table.old ticket ≡ true }
 {
-    match table.abandon(ticket) {
-        Ok(()) => {}
-        Err(_) => unreachable(),
-    }
+    table.abandon(ticket).unwrap();
 }
 
 impl<K: Kind + Drop, H: History + Drop> Seat<K, H> {
