@@ -1,5 +1,5 @@
 -- What goes into a slot.
-use Rattle.std.proofs.Common.{◌≡◌, ℕ, zero, suc, ◌+◌, ◌<◌, List, [], ◌∷◌, map, length, get_or, take, drop, replicate, ℤ, Some, None, Ok, sym, refl, ap, ◌∙◌, arith}
+use Rattle.std.proofs.Common.{◌≡◌, ℕ, zero, suc, ◌+◌, ◌<◌, List, [], ◌∷◌, length, get_or, take, drop, replicate, ℤ, Some, None, Ok, sym, refl, ap, ◌∙◌, arith}
 use Rattle.std.proofs.lemmas.List.{take_at}
 use Rattle.action.specs.declared.refusals.Refusal.{Refusal}
 use Rattle.kind.specs.Meanings.{on_hand}
@@ -9,9 +9,8 @@ use Rattle.table.specs.declared.tickets.Ticket.{Ticket}
 use Rattle.table.specs.Transactions.{Committed, Opened, Wrote, abandoned, commit_refusal, committed, fitting, new_action, next_time, opened, transaction_bytes, write_refusal, written}
 use Rattle.table.specs.View.{View}
 use Rattle.script.specs.declared.answers.Answer.TheVariants.{Number}
-use Rattle.script.specs.declared.slots.Slot.{Slot}
 use Rattle.script.specs.Acts.{Outcome, decided, moved_opened, moved_written, moved, offered, refused_at}
-use Rattle.script.specs.Slots.{blank, held}
+use Rattle.script.specs.Slots.{blank}
 
 -- what a call is given
 pub blank_is : replicate 1200 0 ≡ blank
@@ -22,7 +21,7 @@ pub held_written : (buffer bytes : List ℕ) (n : ℕ) → n ≡ length bytes �
 held_written buffer bytes n e = take_at bytes (drop (0 + length bytes) buffer) n (sym e)
 
 -- slots that hold nothing
-pub all_empty : (slots : List Slot) (n : ℕ) → length slots ≡ n → ((i : ℕ) (none : Slot) → i < n → held (get_or slots i none) ≡ []) → map held slots ≡ replicate n []
+pub all_empty : (slots : List (List ℕ)) (n : ℕ) → length slots ≡ n → ((i : ℕ) (none : List ℕ) → i < n → get_or slots i none ≡ []) → slots ≡ replicate n []
 all_empty [] zero long empty = refl
 all_empty [] (suc n) long empty = absurd (omega (arith, long))
 all_empty (slot ∷ slots) zero long empty = absurd (omega (arith, long))

@@ -1,16 +1,14 @@
 -- What a line does to the desk, and what it prints. Assumes nothing.
-use Rattle.std.specs.Prelude.{◌≡◌, ℕ, zero, suc, List, [], map, replicate, Some, None, Err, Option, Result, slice_index_or, slice_set}
+use Rattle.std.specs.Prelude.{◌≡◌, ℕ, zero, suc, List, [], replicate, Some, None, Err, Option, Result, slice_index_or, slice_set}
 use Rattle.kind.specs.Meanings.{on_hand}
 use Rattle.table.specs.View.{View, fresh}
 use Rattle.script.specs.declared.answers.Answer.{Answer}
 use Rattle.script.specs.declared.commands.Command.{Command}
 use Rattle.script.specs.declared.commands.Command.TheVariants.{Move, Offer, Figure, OpenItem}
-use Rattle.script.specs.declared.desks.Desk.{Desk}
 use Rattle.script.specs.declared.faults.LineFault.{LineFault}
 use Rattle.script.specs.Acts.{Outcome, Reply, answered, figured, flagged, moved, offered}
 use Rattle.script.specs.Lines.{command, site_of}
 use Rattle.script.specs.Sheets.{printed}
-use Rattle.script.specs.Slots.{held}
 
 -- the tables of sites 0, 1 and 2, and for each slot the message in it
 pub record DeskView : Type 0 where
@@ -18,14 +16,6 @@ pub record DeskView : Type 0 where
   pub second : View
   pub third : View
   pub slots : List (List ℕ)
-
-abbrev pub desk_view : Desk → DeskView
-desk_view d = record {
-  first = d.first;
-  second = d.second;
-  third = d.third;
-  slots = map held d.slots;
-}
 
 -- site `site` of three sites with four articles, with nothing recorded yet and 64 places to record in
 pub record FreshSite (site : ℕ) (v : View) : Type 0 where

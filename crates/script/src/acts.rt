@@ -3,7 +3,6 @@ ghost use Rattle.std.specs.Prelude.{◌≡◌, true};
 ghost use Rattle.kind.specs.Meanings.{on_hand};
 ghost use Rattle.table.specs.Transactions.{abandoned, holds};
 ghost use Rattle.script.specs.Acts.{Moved, Offered};
-ghost use Rattle.script.specs.Slots.{held};
 
 use crate::answers::Answer;
 use crate::faults::LineFault;
@@ -31,7 +30,7 @@ pub(crate) fn move_stock<H: History>(
     amount: i32,
     slot: &mut Slot,
 ) -> Result<Answer, LineFault>
-    ensures { Moved table.old article amount (held slot.old) result table.new (held slot.new) }
+    ensures { Moved table.old article amount slot.old result table.new slot.new }
 {
     let ticket = table.open()?;
     let time = match table.write(&ticket, article, OnHand::ADD, amount) {
@@ -55,7 +54,7 @@ pub(crate) fn offer_article<H: History>(
     article: u8,
     slot: &mut Slot,
 ) -> Result<Answer, LineFault>
-    ensures { Offered table.now peer article (held slot.old) result (held slot.new) }
+    ensures { Offered table.now peer article slot.old result slot.new }
 {
     let mut buffer = [0; SLOT_BYTES];
     let length = table.offer(peer, article, &mut buffer)?;

@@ -1,5 +1,5 @@
 ghost use Rattle.std.specs.Prelude.{◌≡◌, ◌<◌, IfOk};
-ghost use Rattle.script.specs.Desk.{FreshDesk, desk_view};
+ghost use Rattle.script.specs.Desk.{FreshDesk};
 
 use crate::desks::Desk;
 use action::Setup;
@@ -23,9 +23,8 @@ fn setup(site: u32) -> Setup
 
 impl Desk {
     // A desk of three sites on which nothing has moved yet, and ten empty slots.
-    #[tactic(auto, using(crate::proofs::Held::all_empty))]
     pub fn new(heap: Global) -> Result<Desk, AllocError>
-        ensures { IfOk result (λ desk. FreshDesk (desk_view desk)) }
+        ensures { IfOk result (λ desk. FreshDesk desk) }
     {
         let first = Rack::new(heap, PLACES)?;
         let second = Rack::new(heap, PLACES)?;

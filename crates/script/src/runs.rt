@@ -1,8 +1,7 @@
-ghost use Rattle.std.specs.Prelude.{◌≡◌, ◌<◌, map};
-ghost use Rattle.script.specs.Desk.{Acted, ActedAt, desk_view, ran};
+ghost use Rattle.std.specs.Prelude.{◌≡◌, ◌<◌};
+ghost use Rattle.script.specs.Desk.{Acted, ActedAt, ran};
 ghost use Rattle.script.specs.Lines.{Placed};
 ghost use Rattle.script.specs.Sheets.{sheet_bytes};
-ghost use Rattle.script.specs.Slots.{held};
 
 use crate::acts::{move_stock, offer_article};
 use crate::answers::Answer;
@@ -24,7 +23,7 @@ fn act_at<H: History>(
     command: Command,
 ) -> Result<Answer, LineFault>
     requires { Placed command }
-    ensures { ActedAt table.old (map held slots.old) command result table.new (map held slots.new) }
+    ensures { ActedAt table.old slots.old command result table.new slots.new }
 {
     match command {
         Command::Move {
@@ -51,7 +50,7 @@ impl Desk {
     #[tactic(auto, using(crate::proofs::Turns::acted_by))]
     fn act(&mut self, command: Command) -> Result<Answer, LineFault>
         requires { Placed command }
-        ensures { Acted (desk_view self.old) command result (desk_view self.new) }
+        ensures { Acted self.old command result self.new }
     {
         let slots = &mut self.slots;
         match command.site() {
@@ -63,8 +62,8 @@ impl Desk {
 
     // Runs one line, without the byte that ends it, and answers what is printed for it.
     pub fn run(&mut self, line: &[u8]) -> SheetLine
-        ensures desk { desk_view self.new ≡ (ran (desk_view self.old) line.now).desk }
-        ensures bytes { sheet_bytes result ≡ (ran (desk_view self.old) line.now).bytes }
+        ensures desk { self.new ≡ (ran self.old line.now).desk }
+        ensures bytes { sheet_bytes result ≡ (ran self.old line.now).bytes }
     {
         match parse(line) {
             Some(command) => {

@@ -1,6 +1,5 @@
 ghost use Rattle.std.specs.Prelude.{◌≡◌, ◌<◌, ◌==◌, ◌∷◌, length};
 ghost use Rattle.std.specs.Iterator.{YieldsFirstRef, item_count};
-ghost use Rattle.script.specs.Desk.{desk_view};
 ghost use Rattle.script.specs.Scripts.{Scripted, lines};
 
 use crate::desks::Desk;
@@ -53,7 +52,7 @@ impl<'a> Iterator for Lines<'a> {
 // Runs the lines of a script on the desk, and appends what they print.
 #[tactic(auto, using(crate::proofs::Lined::ran_more))]
 pub fn run_script(desk: &mut Desk, input: &[u8], out: &mut Vec<u8>) -> Result<(), AllocError>
-    ensures { Scripted (desk_view desk.old) input.now out.old.items result (desk_view desk.new) out.new.items }
+    ensures { Scripted desk.old input.now out.old.items result desk.new out.new.items }
 {
     let text = &input[..input.len().min(LONGEST_SCRIPT)];
     for line in (Lines { text }) {

@@ -1,6 +1,7 @@
-ghost use Rattle.std.specs.Prelude.{◌≡◌, ◌≤◌, length};
+ghost use Rattle.std.specs.Prelude.{◌≡◌, ℕ, ◌≤◌, List, length};
 
 use arrayvec::ArrayVec;
+use std::marker::Model;
 
 // The most bytes that a message in a slot has.
 pub(crate) const SLOT_BYTES: usize = 1200;
@@ -11,13 +12,18 @@ pub struct Slot {
     message: ArrayVec<u8, SLOT_BYTES>,
 }
 
-impl Slot {
-    ghost use Rattle.script.specs.Slots.{held};
+// Contracts see the message.
+impl Model for Slot {
+    ghost Value = { List ℕ };
 
+    ghost view = { λ s. s.message.items };
+}
+
+impl Slot {
     // Keeps the message in place of what the slot held.
     pub(crate) fn keep(&mut self, message: &[u8])
         requires { length message.now ≤ 1200 }
-        ensures { held self.new ≡ message.now }
+        ensures { self.new ≡ message.now }
     {
         self.message.clear();
         self.message.try_extend_from_slice(message).unwrap();

@@ -4,7 +4,6 @@ use Rattle.kind.specs.Meanings.{on_hand}
 use Rattle.table.specs.Transactions.{Committed}
 use Rattle.script.specs.declared.answers.Answer.TheVariants.{Number}
 use Rattle.script.specs.Acts.{moved}
-use Rattle.script.specs.Slots.{held}
 use Rattle.script.proofs.Held.{blank_is, move_granted}
 use Rattle.script.proofs.acts.move_stock.Goals as goal
 
@@ -14,7 +13,7 @@ returns-in-Ok-commit g c =
     let u = c.write.new.self in
     let after = c.commit.new.self in
     let ticket = c.in_ok-ticket.ticket in
-    let slot = held c.args.slot.now in
+    let slot = c.args.slot.now in
     let z = c.args.amount in
     let article = c.args.article in
     let done = c.in-Ok-commit in

@@ -1,6 +1,6 @@
 use Rattle.std.proofs.Common.{◌≡◌, [], ◌∷◌, ◌++◌, map, sym, refl, ap, ◌∙◌}
 use Rattle.std.proofs.lemmas.List.{append_assoc, append-nil, map-append}
-use Rattle.script.specs.Desk.{desk_view, ran}
+use Rattle.script.specs.Desk.{ran}
 use Rattle.script.specs.Scripts.{lines, ran_all}
 use Rattle.script.proofs.Lined.{cut, printed_more, ran_more}
 use Rattle.script.proofs.scripts.run_script.Goals as goal
@@ -14,7 +14,7 @@ loop-line-init c = record {
 
 pub loop-line-preserved : goal.loop-line-preserved
 loop-line-preserved c =
-    let start = desk_view c.args.desk.now in
+    let start = c.args.desk.now in
     let out = c.args.out.now.items in
     let line = c.in-Some.line.now in
     let inv = c.loop-line.invariant in

@@ -1,5 +1,4 @@
 use Rattle.std.proofs.Common.{◌≡◌, ◌++◌, map}
-use Rattle.script.specs.Desk.{desk_view}
 use Rattle.script.specs.Scripts.{lines, ran_all, script}
 use Rattle.script.proofs.scripts.run_script.Given as goal
 
@@ -7,9 +6,9 @@ use Rattle.script.proofs.scripts.run_script.Given as goal
 abbrev pub invariant-loop-line : goal.invariant-loop-line
 invariant-loop-line l =
     let done = map (λ b. b.now) l.yielded in
-    let ran = ran_all (desk_view l.initial.desk) done in
+    let ran = ran_all l.initial.desk done in
     record {
       whole : script l.input ≡ done ++ lines l.line-iterator.text.now;
-      desk : desk_view l.desk ≡ ran.desk;
+      desk : l.desk ≡ ran.desk;
       printed : l.out.items ≡ l.initial.out.items ++ ran.bytes;
     }
