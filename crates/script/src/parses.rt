@@ -37,7 +37,8 @@ fn amount(sign: u8, thousands: u32, ones: u32) -> Option<i32>
     }
 }
 
-// The command that a line writes, or `None` where it has no known form.
+// The command that a line writes, or `None` where it has no known form. There is nothing more to say of
+// such a line, so this is no `TryFrom`.
 pub fn parse(line: &[u8]) -> Option<Command>
     ensures form { result ≡ command line.now }
     ensures placed { IfSome result Placed }
