@@ -55,7 +55,7 @@ pub struct Stretch {
 }
 
 impl Progress {
-    // Nothing read yet. No `Default`, since an action has none.
+    // Nothing read yet. Named, since a `default` would not say what is due.
     pub fn start() -> Progress
         ensures { result ≡ start }
     {
