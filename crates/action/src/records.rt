@@ -33,7 +33,8 @@ impl Action {
         ]
     }
 
-    // The action that the sixteen bytes of a record stand for.
+    // The action that the sixteen bytes of a record stand for. Named as `u32::from_be_bytes` is, beside
+    // `to_bytes`.
     pub fn from_bytes(bytes: &[u8; 16]) -> Action
         ensures { result ≡ action_of bytes.now }
     {

@@ -17,6 +17,7 @@ fn front<const N: usize>(bytes: &[u8]) -> Result<&[u8; N], Flaw>
 
 // The record that the bytes begin with, where one of this kind is due; `None` where the end is due
 // and there.
+#[inline(always)]
 pub(crate) fn decode(due: Due, bytes: &[u8]) -> Result<Option<Record>, Flaw>
     ensures value { result ≡ decoded due bytes.now }
     ensures fits { size_of result ≤ length bytes.now }

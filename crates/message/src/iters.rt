@@ -1,4 +1,10 @@
 // A message's records, one after another, in the order of its bytes. For a message that has been checked.
+//
+// Each `next` is inlined, as is the decoding that it calls: a record that is handed on through memory is
+// written field by field and read back in wider words, for which the processor waits.
+//
+// Intervals and actions are looked for by `while let`: after a `for` over `by_ref`, and after `find_map`,
+// nothing is known of the records that are left.
 ghost use Rattle.std.specs.Prelude.{◌≡◌, ◌≤◌, List, length, map};
 ghost use Rattle.std.specs.Iterator.{YieldsFirst, item_count};
 ghost use Rattle.std.specs.Iterator.Runs.{YieldsInOrder};
@@ -17,6 +23,7 @@ use std::marker::Model;
 #[derive(Drop)]
 pub struct Records<'a> {
     bytes: &'a [u8],
+    // Counted on, since each record is yielded with its place.
     at: usize,
 }
 
@@ -46,6 +53,7 @@ impl<'a> Iterator for Records<'a> {
 
     ghost remaining = { item_count (λ left. left) };
 
+    #[inline(always)]
     fn next(&mut self) -> Option<Found> {
         let offset = self.at;
         let record = record_at(self.bytes, offset)?;
@@ -89,6 +97,7 @@ impl<'a> Iterator for Intervals<'a> {
 
     ghost remaining = { item_count (λ left. left) };
 
+    #[inline(always)]
     fn next(&mut self) -> Option<Stretch> {
         while let Some(found) = self.records.next() {
             let article = self.article;
@@ -133,6 +142,7 @@ impl<'a> Iterator for Actions<'a> {
 
     ghost remaining = { item_count (λ left. left) };
 
+    #[inline(always)]
     fn next(&mut self) -> Option<Action> {
         while let Some(found) = self.0.next() {
             if let Some(action) = found.record.action() {

@@ -32,7 +32,8 @@ pub struct Progress {
     // The present section's article, and the least article that the next section may have.
     pub article: u8,
     pub next_article: u8,
-    // The least site that the next interval may have, and what the intervals so far carry of each site.
+    // The least site that the next interval may have, and what the intervals so far carry of each site: by
+    // site, since memory is fixed and a group has no more than these.
     pub next_site: u8,
     pub spans: [Span; 8],
     // The last action of the section; one at time 0 stands before the first.

@@ -38,7 +38,8 @@ impl Header {
     }
 }
 
-// The rules for the next record, after those before it.
+// The rules for the next record, after those before it. The set-up is lent to them and no field: each
+// rule would have to say that it stays.
 impl Progress {
     fn is_lawful_section(&self, setup: &Setup, head: &SectionHead) -> bool
         ensures { result ≡ lawful_section setup.now self.now head.now }
@@ -75,6 +76,7 @@ impl Progress {
             && K::is_known(action.operation, action.amount)
     }
 
+    // One for each record, all with one clause, and so with one kind and set-up, which some have no need of.
     fn admit_header<K: Kind>(&mut self, setup: &Setup, header: &Header) -> Result<(), Flaw>
         ensures { Admits K.means setup.now self.old (HeaderRecord header.now) result self.new }
     {

@@ -8,6 +8,7 @@ use action::Action;
 
 // The record that begins at a place of the bytes, whatever its kind; `None` where none does. For
 // going over the records of a message that has been checked.
+#[inline(always)]
 pub fn record_at(bytes: &[u8], at: usize) -> Option<Record>
     ensures value { result ≡ record_in (drop at bytes.now) }
     ensures fits { at ≤ length bytes.now → at + size_in result ≤ length bytes.now }
@@ -16,6 +17,7 @@ pub fn record_at(bytes: &[u8], at: usize) -> Option<Record>
 }
 
 // The record that the bytes begin with.
+#[inline(always)]
 fn first_record(bytes: &[u8]) -> Option<Record>
     ensures value { result ≡ record_in bytes.now }
     ensures fits { size_in result ≤ length bytes.now }

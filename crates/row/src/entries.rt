@@ -13,7 +13,7 @@ impl Ledger {
         ensures { result ≡ entry_in self.now.rows article z q }
     {
         self.rows
-            .get(article as usize)
+            .get(usize::from(article))
             .map_or(0, |row| row.entry(z, q))
     }
 

@@ -17,8 +17,8 @@ impl Ledger {
         ensures rows { (f : ARow → ARow) → ((r s : ARow) → FnOnceReturnsAtMut F.FnOnce change r tt s → s ≡ f r) → self.new.rows ≡ changed_row f self.old.rows article }
         ensures fixed { self.new.setup ≡ self.old.setup }
     {
-        // An index and not `get_mut`, after which nothing is known of an array's elements.
-        let article = article as usize;
+        // By an index and not `get_mut`, for the reason that `Row::raise` has.
+        let article = usize::from(article);
         if article < self.rows.len() {
             change(&mut self.rows[article]);
         }

@@ -21,8 +21,8 @@ impl Row {
         ensures { result ≡ at self.now.known z q }
     {
         self.known
-            .get(z as usize)
-            .and_then(|entries| entries.get(q as usize))
+            .get(usize::from(z))
+            .and_then(|entries| entries.get(usize::from(q)))
             .copied()
             .unwrap_or(0)
     }
@@ -31,10 +31,11 @@ impl Row {
     pub(crate) fn raise(&mut self, z: u8, q: u8, to: u32)
         ensures { self.new ≡ raised_row z q to self.old }
     {
-        // An index and not `get_mut`, after which nothing is known of an array's elements.
-        let q = q as usize;
+        // By indices: `get_mut` of the array or of it as a slice was tried, and leaves the proof not knowing
+        // what the array holds once the element is given back.
+        let q = usize::from(q);
         if z < 8 {
-            let entries: &mut [u32] = &mut self.known[z as usize];
+            let entries: &mut [u32] = &mut self.known[usize::from(z)];
             if q < entries.len() {
                 entries[q] = entries[q].max(to);
             }

@@ -1,4 +1,5 @@
 -- A table's fault by number, place and layer. Assumes nothing.
+use Rattle.std.specs.Prelude.{◌≡◌, Bool, true, false, Ok, Err, Result}
 use Rattle.action.specs.declared.refusals.Refusal.{Refusal}
 use Rattle.action.specs.Lawful.{by_table}
 use Rattle.history.specs.Faults as HistoryFaults
@@ -20,3 +21,8 @@ shown (Ahead place) = by_table 14 place
 shown (Short needed) = by_table 15 needed
 shown (InReader fault) = ReaderFaults.shown fault
 shown (InHistory fault) = HistoryFaults.shown fault
+
+-- a check passes where its condition holds, and is refused by its fault where not
+abbrev pub Passes : Bool → TableFault → Result Unit TableFault → Type 0
+Passes holds fault (Ok _) = holds ≡ true
+Passes holds fault (Err e) = (holds ≡ false) × (e ≡ fault)

@@ -3,17 +3,19 @@ ghost use Rattle.message.specs.Buffer.{overwritten};
 ghost use Rattle.message.specs.Lawful.{LawfulMessage};
 ghost use Rattle.table.specs.Sound.{Sound};
 ghost use Rattle.table.specs.Transactions.{Committed, committed, fitting, transaction_bytes, transaction_message};
-ghost use Rattle.table.specs.View.{bare, held};
+ghost use Rattle.table.specs.View.{bare};
 
 use crate::faults::TableFault;
 use crate::state::{State, written_in};
+use crate::stores::Store;
 use crate::tables::Table;
 use crate::tickets::Ticket;
 use history::{History, HistoryFault};
 use kind::Kind;
 use row::append;
 
-// Writes the transaction's message where there were writes and it fits, and answers its length.
+// Writes the transaction's message where there were writes and it fits, and answers its length: 0 where
+// it wrote none, as the call answers.
 fn send<K: Kind>(state: &State, buffer: &mut [u8]) -> usize
     ensures length { result ≡ length (fitting (transaction_bytes K.means (bare state.now)) buffer.old) }
     ensures bytes { buffer.new ≡ overwritten buffer.old 0 (fitting (transaction_bytes K.means (bare state.now)) buffer.old) }
@@ -29,42 +31,44 @@ fn send<K: Kind>(state: &State, buffer: &mut [u8]) -> usize
     size.length
 }
 
-// Records the pending actions, and ends the transaction.
-fn post<K: Kind, H: History>(state: &mut State, history: &mut H)
-    requires sound { Sound K.means (held state.old (H.items history.old) (H.room history.old)) }
-    requires room { length (H.items history.old) + length (bare state.old).pending ≤ H.room history.old }
-    ensures { held state.new (H.items history.new) (H.room history.new) ≡ committed K.means (held state.old (H.items history.old) (H.room history.old)) }
-{
-    let pending = written_in(&state.transaction);
-    append(history, pending);
-    state.ledger.raise_posted(pending);
-    state.ledger.work::<K, H>(history, pending);
-    state.clock += pending.len() as u32;
-    state.transaction = None;
-}
+impl<H: History> Store<H> {
+    // Records the pending actions, and ends the transaction.
+    fn post<K: Kind>(&mut self)
+        requires sound { Sound K.means self.old }
+        requires room { length self.old.history + length self.old.pending ≤ self.old.capacity }
+        ensures { self.new ≡ committed K.means self.old }
+    {
+        let Store { state, history } = self;
+        let pending = written_in(&state.transaction);
+        append(history, pending);
+        state.ledger.raise_posted(pending);
+        state.ledger.work::<K, H>(history, pending);
+        state.clock += pending.len() as u32;
+        state.transaction = None;
+    }
 
-// Commits the transaction, or hands the ticket back and changes nothing.
-fn finish<K: Kind, H: History>(
-    state: &mut State,
-    history: &mut H,
-    ticket: Ticket,
-    buffer: &mut [u8],
-) -> Result<(usize, usize), (TableFault, Ticket)>
-    requires { Sound K.means (held state.old (H.items history.old) (H.room history.old)) }
-    ensures { Committed K.means (held state.old (H.items history.old) (H.room history.old)) ticket buffer.old result (held state.new (H.items history.new) (H.room history.new)) buffer.new }
-{
-    if !state.holds::<K>(&ticket) {
-        return Err((TableFault::NotItsTicket, ticket));
+    // Commits the transaction, or hands the ticket back and changes nothing.
+    fn commit<K: Kind>(
+        &mut self,
+        ticket: Ticket,
+        buffer: &mut [u8],
+    ) -> Result<(usize, usize), (TableFault, Ticket)>
+        requires { Sound K.means self.old }
+        ensures { Committed K.means self.old ticket buffer.old result self.new buffer.new }
+    {
+        if !self.state.holds::<K>(&ticket) {
+            return Err((TableFault::NotItsTicket, ticket));
+        }
+        let writes = written_in(&self.state.transaction).len();
+        let capacity = self.history.capacity();
+        if self.history.count() + writes > capacity {
+            return Err((HistoryFault::Full(capacity).into(), ticket));
+        }
+        ticket.spend();
+        let length = send::<K>(&self.state, buffer);
+        self.post::<K>();
+        Ok((writes, length))
     }
-    let writes = written_in(&state.transaction).len();
-    let capacity = history.capacity();
-    if history.count() + writes > capacity {
-        return Err((HistoryFault::Full(capacity).into(), ticket));
-    }
-    ticket.spend();
-    let length = send::<K>(state, buffer);
-    post::<K, H>(state, history);
-    Ok((writes, length))
 }
 
 impl<K: Kind, H: History> Table<K, H> {
@@ -79,6 +83,6 @@ impl<K: Kind, H: History> Table<K, H> {
         ensures sound { Sound K.means self.new }
         ensures lawful { 0 < length self.old.pending → LawfulMessage K.means self.old.setup (transaction_message K.means self.old) }
     {
-        finish::<K, H>(&mut self.state, &mut self.history, ticket, buffer)
+        self.store.commit::<K>(ticket, buffer)
     }
 }

@@ -11,8 +11,5 @@ pub(crate) fn emit(buffer: &mut [u8], at: usize, record: Record) -> usize
     ensures end { result ≡ at + length (record_bytes «record») }
     ensures bytes { buffer.new ≡ overwritten buffer.old at (record_bytes «record») }
 {
-    match put(buffer, at, record) {
-        Some(end) => end,
-        None => unreachable(),
-    }
+    put(buffer, at, record).unwrap()
 }

@@ -4,6 +4,7 @@
 
 mod answers;
 mod archives;
+mod checks;
 mod commits;
 mod emits;
 mod faults;
@@ -12,6 +13,7 @@ mod makes;
 mod offers;
 mod pendings;
 mod state;
+mod stores;
 mod tables;
 mod tickets;
 mod transactions;

@@ -3,6 +3,7 @@ ghost use Rattle.table.specs.Sound.{Sound};
 ghost use Rattle.table.specs.View.{fresh};
 
 use crate::state::State;
+use crate::stores::Store;
 use crate::tables::Table;
 use action::Setup;
 use history::History;
@@ -28,12 +29,14 @@ impl<K: Kind, H: History> Table<K, H> {
     {
         empty(&mut history);
         Table {
-            state: State {
-                ledger: Ledger::new(setup, K::start()),
-                clock: 0,
-                transaction: None,
+            store: Store {
+                state: State {
+                    ledger: Ledger::new(setup, K::start()),
+                    clock: 0,
+                    transaction: None,
+                },
+                history,
             },
-            history,
             kind: PhantomData,
         }
     }

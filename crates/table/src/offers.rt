@@ -6,11 +6,12 @@ ghost use Rattle.message.specs.Format.{interval_bytes};
 ghost use Rattle.message.specs.Lawful.{LawfulMessage};
 ghost use Rattle.table.specs.Offers.{Offered, is_offered, offer_interval, offer_message};
 ghost use Rattle.table.specs.Sound.{Sound};
-ghost use Rattle.table.specs.View.{bare, held};
+ghost use Rattle.table.specs.View.{bare};
 
 use crate::emits::emit;
 use crate::faults::TableFault;
 use crate::state::State;
+use crate::stores::Store;
 use crate::tables::Table;
 use action::Action;
 use history::{History, actions};
@@ -49,12 +50,12 @@ impl Offer {
     }
 
     // How many actions the offer carries.
-    fn count<H: History>(self, state: &State, history: &H) -> usize
-        ensures value { result ≡ length (filter (is_offered (bare state.now) self.peer self.article) (H.items history.now)) }
-        ensures few { result ≤ length (H.items history.now) }
+    fn count<H: History>(self, store: &Store<H>) -> usize
+        ensures value { result ≡ length (filter (is_offered store.now self.peer self.article) store.now.history) }
+        ensures few { result ≤ length store.now.history }
     {
-        actions(history)
-            .filter(|action| self.carries(state, action))
+        actions(&store.history)
+            .filter(|action| self.carries(&store.state, action))
             .count()
     }
 
@@ -73,20 +74,14 @@ impl Offer {
 
     // Puts the actions that the offer carries. Apart from `put_on`, since one function over any iterator
     // would have to ask what each of its runs may yield.
-    fn put_actions<H: History>(
-        self,
-        state: &State,
-        history: &H,
-        buffer: &mut [u8],
-        start: usize,
-    ) -> usize
-        requires { start + 16 * length (filter (is_offered (bare state.now) self.peer self.article) (H.items history.now)) ≤ length buffer.old }
-        ensures end { result ≡ start + 16 * length (filter (is_offered (bare state.now) self.peer self.article) (H.items history.now)) }
-        ensures bytes { buffer.new ≡ overwritten buffer.old start (flat_map action_bytes (filter (is_offered (bare state.now) self.peer self.article) (H.items history.now))) }
+    fn put_actions<H: History>(self, store: &Store<H>, buffer: &mut [u8], start: usize) -> usize
+        requires { start + 16 * length (filter (is_offered store.now self.peer self.article) store.now.history) ≤ length buffer.old }
+        ensures end { result ≡ start + 16 * length (filter (is_offered store.now self.peer self.article) store.now.history) }
+        ensures bytes { buffer.new ≡ overwritten buffer.old start (flat_map action_bytes (filter (is_offered store.now self.peer self.article) store.now.history)) }
     {
         let mut at = start;
-        for action in actions(history) {
-            if self.carries(state, &action) {
+        for action in actions(&store.history) {
+            if self.carries(&store.state, &action) {
                 at = emit(buffer, at, Record::Action(action));
             }
         }
@@ -96,21 +91,17 @@ impl Offer {
     // Writes the offer, and answers its length.
     fn write<K: Kind, H: History>(
         self,
-        state: &State,
-        history: &H,
+        store: &Store<H>,
         buffer: &mut [u8],
     ) -> Result<usize, TableFault>
-        ensures { Offered K.means (held state.now (H.items history.now) (H.room history.now)) self.peer self.article buffer.old result buffer.new }
+        ensures { Offered K.means store.now self.peer self.article buffer.old result buffer.new }
     {
+        let state = &store.state;
+        state.check_article(self.article)?;
+        state.check_site(self.peer)?;
         let setup = state.ledger.setup;
-        if self.article >= setup.articles {
-            return Err(TableFault::NoArticle);
-        }
-        if self.peer >= setup.sites {
-            return Err(TableFault::NoSite);
-        }
-        let carried = self.count(state, history);
-        let needed = 11 + 10 * setup.sites as usize + 16 * carried;
+        let carried = self.count(store);
+        let needed = 11 + 10 * usize::from(setup.sites) + 16 * carried;
         if needed > buffer.len() {
             return Err(TableFault::Short(needed));
         }
@@ -128,7 +119,7 @@ impl Offer {
         let at = emit(buffer, 0, Record::Header(header));
         let at = emit(buffer, at, Record::Section(head));
         let at = self.put_intervals(state, buffer, at);
-        Ok(self.put_actions(state, history, buffer, at))
+        Ok(self.put_actions(store, buffer, at))
     }
 }
 
@@ -141,6 +132,6 @@ impl<K: Kind, H: History> Table<K, H> {
         ensures lawful { article < self.now.setup.articles → LawfulMessage K.means self.now.setup (offer_message K.means self.now peer article) }
     {
         let offer = Offer { peer, article };
-        offer.write::<K, H>(&self.state, &self.history, buffer)
+        offer.write::<K, H>(&self.store, buffer)
     }
 }

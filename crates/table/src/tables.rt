@@ -1,4 +1,4 @@
-use crate::state::State;
+use crate::stores::Store;
 use history::History;
 use kind::Kind;
 use std::marker::{Model, PhantomData};
@@ -7,18 +7,17 @@ use std::marker::{Model, PhantomData};
 // what it holds, and every table is sound.
 #[derive(Drop)]
 pub struct Table<K: Kind, H: History> {
-    pub(crate) state: State,
-    pub(crate) history: H,
+    pub(crate) store: Store<H>,
     pub(crate) kind: PhantomData<K>,
 }
 
 impl<K: Kind, H: History> Model for Table<K, H> {
     ghost use Rattle.table.specs.Sound.{Sound};
-    ghost use Rattle.table.specs.View.{View, held};
+    ghost use Rattle.table.specs.View.{View};
 
     ghost Value = { View };
 
-    ghost view = { λ t. held t.state (H.items t.history) (H.room t.history) };
+    ghost view = { λ t. t.store };
 
-    ghost invariant = { λ t. Sound K.means (held t.state (H.items t.history) (H.room t.history)) };
+    ghost invariant = { λ t. Sound K.means t.store };
 }

@@ -17,15 +17,14 @@ impl<K: Kind, H: History> Table<K, H> {
         ensures does { Opened K.means self.old result self.new }
         ensures sound { Sound K.means self.new }
     {
-        if self.state.transaction.is_some() {
-            return Err(TableFault::AlreadyOpen);
-        }
-        self.state.transaction = Some(Pending::new());
+        let state = &mut self.store.state;
+        state.check_closed()?;
+        state.transaction = Some(Pending::new());
         Ok(Ticket {
-            group: self.state.ledger.setup.group,
+            group: state.ledger.setup.group,
             kind: K::number(),
-            site: self.state.ledger.setup.own,
-            clock: self.state.clock,
+            site: state.ledger.setup.own,
+            clock: state.clock,
         })
     }
 
@@ -40,32 +39,31 @@ impl<K: Kind, H: History> Table<K, H> {
         ensures does { Wrote K.means self.old ticket.now article operation amount result self.new }
         ensures sound { Sound K.means self.new }
     {
-        if !self.state.holds::<K>(ticket) {
+        let state = &mut self.store.state;
+        if !state.holds::<K>(ticket) {
             return Err(TableFault::NotItsTicket);
         }
-        if article >= self.state.ledger.setup.articles {
-            return Err(TableFault::NoArticle);
-        }
+        state.check_article(article)?;
         if !K::is_known(operation, amount) {
             return Err(TableFault::UnknownPair);
         }
-        let writes = written_in(&self.state.transaction).len();
+        let writes = written_in(&state.transaction).len();
         if writes >= MOST_WRITES {
             return Err(TableFault::TooManyWrites);
         }
-        let before = self.state.clock + writes as u32;
+        let before = state.clock + writes as u32;
         if before >= LATEST_TIME {
             return Err(TableFault::TooLate);
         }
         let action = Action {
-            coordinator: self.state.ledger.setup.own,
+            coordinator: state.ledger.setup.own,
             time: before + 1,
-            transaction: self.state.clock + 1,
+            transaction: state.clock + 1,
             article,
             operation,
             amount,
         };
-        match &mut self.state.transaction {
+        match &mut state.transaction {
             Some(pending) => pending.push(action),
             None => unreachable(),
         }
@@ -77,11 +75,12 @@ impl<K: Kind, H: History> Table<K, H> {
         ensures does { Abandoned K.means self.old ticket result self.new }
         ensures sound { Sound K.means self.new }
     {
-        if !self.state.holds::<K>(&ticket) {
+        let state = &mut self.store.state;
+        if !state.holds::<K>(&ticket) {
             return Err((TableFault::NotItsTicket, ticket));
         }
         ticket.spend();
-        self.state.transaction = None;
+        state.transaction = None;
         Ok(())
     }
 }

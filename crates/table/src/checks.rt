@@ -1,0 +1,40 @@
+// What several calls check first.
+ghost use Rattle.std.specs.Prelude.{not, nat_lt};
+ghost use Rattle.std.specs.Option.{is_some};
+ghost use Rattle.table.specs.Faults.{Passes};
+ghost use Rattle.table.specs.declared.faults.TableFault.TheVariants.{AlreadyOpen as IsOpen, NoArticle as IsNoArticle, NoSite as IsNoSite};
+
+use crate::faults::TableFault;
+use crate::state::State;
+
+impl State {
+    // No transaction is open.
+    pub(crate) fn check_closed(&self) -> Result<(), TableFault>
+        ensures { Passes (not (is_some self.now.transaction)) IsOpen result }
+    {
+        if self.transaction.is_some() {
+            return Err(TableFault::AlreadyOpen);
+        }
+        Ok(())
+    }
+
+    // The article is one of the group's.
+    pub(crate) fn check_article(&self, article: u8) -> Result<(), TableFault>
+        ensures { Passes (nat_lt article self.now.ledger.setup.articles) IsNoArticle result }
+    {
+        if article >= self.ledger.setup.articles {
+            return Err(TableFault::NoArticle);
+        }
+        Ok(())
+    }
+
+    // The site is one of the group's.
+    pub(crate) fn check_site(&self, site: u8) -> Result<(), TableFault>
+        ensures { Passes (nat_lt site self.now.ledger.setup.sites) IsNoSite result }
+    {
+        if site >= self.ledger.setup.sites {
+            return Err(TableFault::NoSite);
+        }
+        Ok(())
+    }
+}
