@@ -1,6 +1,7 @@
 -- A loop that puts actions into a buffer, by what is left to put. Assumes nothing.
-use Rattle.std.proofs.Common.{◌≡◌, ℕ, ◌+◌, ◌*◌, ◌≤◌, Bool, true, false, cond, List, ◌∷◌, length, filter, sym, ap, ◌∙◌, subst, arith}
+use Rattle.std.proofs.Common.{◌≡◌, ℕ, ◌+◌, ◌*◌, ◌≤◌, Bool, true, false, cond, List, [], ◌∷◌, ◌++◌, length, take, drop, filter, sym, ap, ◌∙◌, subst, arith}
 use Rattle.std.specs.List.{flat_map}
+use Rattle.std.proofs.lemmas.List.{take-append-drop}
 use Rattle.action.specs.declared.orders.Action.{Action}
 use Rattle.action.specs.Bytes.{action_bytes}
 use Rattle.message.specs.Buffer.{overwritten}
@@ -28,3 +29,9 @@ module _ (p : Action → Bool) (b b₀ : List ℕ) (at start : ℕ) (xs ys all :
   leave_first fails b₁ end to put =
       let left : filter p xs ≡ filter p ys = ap (filter p) first ∙ ap (λ t. cond t (x ∷ filter p ys) (filter p ys)) (sym fails) in
       subst (λ l. Putting b₁ end l b₀ start all) left (subst (λ n. Putting b₁ n (filter p xs) b₀ start all) (sym to) (subst (λ l. Putting l at (filter p xs) b₀ start all) (sym put) h))
+
+-- nothing is left, and all are put
+pub all_put : (b b₀ : List ℕ) (at start : ℕ) (left all : List Action) → left ≡ [] → Putting b at left b₀ start all → b ≡ overwritten b₀ start (flat_map action_bytes all)
+all_put b b₀ at start left all none h =
+    let same : at ≡ at + 0 = omega arith in
+    sym (take-append-drop at b) ∙ ap (λ n. take at b ++ drop n b) same ∙ ap (λ l. overwritten b at (flat_map action_bytes l)) (sym none) ∙ h.2

@@ -24,6 +24,15 @@ impl<H: History> Store<H> {
         ledger.rows[at].base = base;
         gone
     }
+
+    // Archives an article, or refuses to and changes nothing.
+    fn archive<K: Kind>(&mut self, article: u8) -> Result<usize, TableFault>
+        ensures { Archived K.means self.old article result self.new }
+    {
+        self.state.check_closed()?;
+        self.state.check_article(article)?;
+        Ok(self.settle::<K>(article))
+    }
 }
 
 impl<K: Kind, H: History> Table<K, H> {
@@ -33,8 +42,6 @@ impl<K: Kind, H: History> Table<K, H> {
         ensures does { Archived K.means self.old article result self.new }
         ensures sound { Sound K.means self.new }
     {
-        self.store.state.check_closed()?;
-        self.store.state.check_article(article)?;
-        Ok(self.store.settle::<K>(article))
+        self.store.archive::<K>(article)
     }
 }

@@ -5,19 +5,19 @@ ghost use Rattle.table.specs.Transactions.{Abandoned, Opened, Wrote};
 
 use crate::faults::TableFault;
 use crate::state::{Pending, written_in};
+use crate::stores::Store;
 use crate::tables::Table;
 use crate::tickets::Ticket;
 use action::{Action, LATEST_TIME, MOST_WRITES};
 use history::History;
 use kind::Kind;
 
-impl<K: Kind, H: History> Table<K, H> {
-    // Opens a transaction and hands out its ticket.
-    pub fn open(&mut self) -> Result<Ticket, TableFault>
-        ensures does { Opened K.means self.old result self.new }
-        ensures sound { Sound K.means self.new }
+impl<H: History> Store<H> {
+    // Opens a transaction.
+    fn open<K: Kind>(&mut self) -> Result<Ticket, TableFault>
+        ensures { Opened K.means self.old result self.new }
     {
-        let state = &mut self.store.state;
+        let state = &mut self.state;
         state.check_closed()?;
         state.transaction = Some(Pending::new());
         Ok(Ticket {
@@ -28,18 +28,18 @@ impl<K: Kind, H: History> Table<K, H> {
         })
     }
 
-    // Adds a pending action, and answers the time that it will have.
-    pub fn write(
+    // Adds a pending action.
+    fn write<K: Kind>(
         &mut self,
         ticket: &Ticket,
         article: u8,
         operation: u8,
         amount: i32,
     ) -> Result<u32, TableFault>
-        ensures does { Wrote K.means self.old ticket.now article operation amount result self.new }
-        ensures sound { Sound K.means self.new }
+        requires { Sound K.means self.old }
+        ensures { Wrote K.means self.old ticket.now article operation amount result self.new }
     {
-        let state = &mut self.store.state;
+        let state = &mut self.state;
         if !state.holds::<K>(ticket) {
             return Err(TableFault::NotItsTicket);
         }
@@ -63,6 +63,7 @@ impl<K: Kind, H: History> Table<K, H> {
             operation,
             amount,
         };
+        // The ticket is that of an open transaction.
         match &mut state.transaction {
             Some(pending) => pending.push(action),
             None => unreachable(),
@@ -70,17 +71,47 @@ impl<K: Kind, H: History> Table<K, H> {
         Ok(before + 1)
     }
 
+    // Drops the pending actions and spends the ticket.
+    fn abandon<K: Kind>(&mut self, ticket: Ticket) -> Result<(), (TableFault, Ticket)>
+        ensures { Abandoned K.means self.old ticket result self.new }
+    {
+        if !self.state.holds::<K>(&ticket) {
+            return Err((TableFault::NotItsTicket, ticket));
+        }
+        ticket.spend();
+        self.state.transaction = None;
+        Ok(())
+    }
+}
+
+impl<K: Kind, H: History> Table<K, H> {
+    // Opens a transaction and hands out its ticket.
+    pub fn open(&mut self) -> Result<Ticket, TableFault>
+        ensures does { Opened K.means self.old result self.new }
+        ensures sound { Sound K.means self.new }
+    {
+        self.store.open::<K>()
+    }
+
+    // Adds a pending action, and answers the time that it will have.
+    pub fn write(
+        &mut self,
+        ticket: &Ticket,
+        article: u8,
+        operation: u8,
+        amount: i32,
+    ) -> Result<u32, TableFault>
+        ensures does { Wrote K.means self.old ticket.now article operation amount result self.new }
+        ensures sound { Sound K.means self.new }
+    {
+        self.store.write::<K>(ticket, article, operation, amount)
+    }
+
     // Drops the pending actions and spends the ticket; the clock stays.
     pub fn abandon(&mut self, ticket: Ticket) -> Result<(), (TableFault, Ticket)>
         ensures does { Abandoned K.means self.old ticket result self.new }
         ensures sound { Sound K.means self.new }
     {
-        let state = &mut self.store.state;
-        if !state.holds::<K>(&ticket) {
-            return Err((TableFault::NotItsTicket, ticket));
-        }
-        ticket.spend();
-        state.transaction = None;
-        Ok(())
+        self.store.abandon::<K>(ticket)
     }
 }

@@ -8,5 +8,5 @@ use Rattle.table.proofs.offers.Offer.put_actions.Given as goal
 abbrev pub invariant-loop-action : goal.invariant-loop-action
 invariant-loop-action g l =
     let items = g.H.History.items in
-    let p = is_offered (bare l.state) l.self.peer l.self.article in
-    Putting l.buffer l.at (filter p (left items l.action-iterator)) l.initial.buffer l.start (filter p (items l.history))
+    let p = is_offered (bare l.store-inside.state) l.self.peer l.self.article in
+    Putting l.buffer l.at (filter p (left items l.action-iterator)) l.initial.buffer l.start (filter p (items l.store-inside.history))

@@ -8,11 +8,11 @@ use Rattle.table.proofs.tables.Table.commit.Goals as goal
 
 pub invariant_of-self : goal.invariant_of-self
 invariant_of-self g c =
-    commit_keeps g.K.Kind.means _ _ c.self.invariant c.args.ticket c.args.buffer.now c.finish.new.buffer c.finish.result c.finish.ensures
+    commit_keeps g.K.Kind.means _ _ c.self.invariant c.args.ticket c.args.buffer.now c.commit.new.buffer c.commit.result c.commit.ensures
 
 pub returns-clause-sound : goal.returns-clause-sound
 returns-clause-sound g c =
-    commit_keeps g.K.Kind.means _ _ c.self.invariant c.args.ticket c.args.buffer.now c.finish.new.buffer c.finish.result c.finish.ensures
+    commit_keeps g.K.Kind.means _ _ c.self.invariant c.args.ticket c.args.buffer.now c.commit.new.buffer c.commit.result c.commit.ensures
 
 pub returns-clause-lawful : goal.returns-clause-lawful
 returns-clause-lawful g c =

@@ -3,8 +3,8 @@ use Rattle.table.proofs.tables.Table.take.Goals as goal
 
 pub invariant_of-self : goal.invariant_of-self
 invariant_of-self g c =
-    take_keeps g.K.Kind.means g.met.K.Kind.step_fits g.met.K.Kind.commute _ _ c.self.invariant c.args.bytes.now c.take_message.result c.take_message.ensures
+    take_keeps g.K.Kind.means g.met.K.Kind.step_fits g.met.K.Kind.commute _ _ c.self.invariant c.args.bytes.now c.take.result c.take.ensures
 
 pub returns-clause-sound : goal.returns-clause-sound
 returns-clause-sound g c =
-    take_keeps g.K.Kind.means g.met.K.Kind.step_fits g.met.K.Kind.commute _ _ c.self.invariant c.args.bytes.now c.take_message.result c.take_message.ensures
+    take_keeps g.K.Kind.means g.met.K.Kind.step_fits g.met.K.Kind.commute _ _ c.self.invariant c.args.bytes.now c.take.result c.take.ensures

@@ -6,15 +6,15 @@ use Rattle.message.proofs.Carried.{carried_of, stretches_of}
 use Rattle.message.proofs.Walking.{record_begins}
 use Rattle.row.specs.Rows.{on_row, raised_rows, restarted, stepped_row}
 use Rattle.table.specs.Taking.{is_new, news, taken, taken_history}
-use Rattle.table.specs.View.{held}
+use Rattle.table.specs.View.{View, held}
 use Rattle.table.proofs.Recording.{recorded_by, rows_recorded}
-use Rattle.table.proofs.levels.absorb.Goals as goal
+use Rattle.table.proofs.stores.Store.absorb.Goals as goal
 
 pub returns : goal.returns
 returns g c m is =
     let kind = g.K.Kind.means in
     let bytes = c.args.bytes.now in
-    let v = held c.args.state.now (g.H.History.items c.args.history.now) (g.H.History.room c.args.history.now) in
+    let v = held c.self.inside.state (g.H.History.items c.self.inside.history) (g.H.History.room c.self.inside.history) in
     let new : filter (is_new v) (actions_of (records_in bytes)) ≡ news v m = ap (λ rs. filter (is_new v) (actions_of rs)) is ∙ ap (filter (is_new v)) (carried_of m) in
     let hs : intervals_of 0 (records_in bytes) ≡ stretches m = ap (intervals_of 0) is ∙ stretches_of 0 m in
     let sender : sender_in (record_in bytes) ≡ m.sender = ap sender_in (record_begins bytes _ _ is) in
@@ -23,7 +23,7 @@ returns g c m is =
     let own = v.setup.own in
     let rows : c.record-state.new.self.rows ≡ (taken kind v m).rows = c.record-state.ensures.rows ∙ (λ i. cond kind.commutes (fold (raised_rows own (sender i)) (fold step v.rows (new i)) (hs i)) (fold step (map restarted (fold (raised_rows own (sender i)) v.rows (hs i))) (history i))) ∙ recorded_by kind v m kind.commutes ∙ rows_recorded kind v m in
     let clock : c.record-state.result ≡ (taken kind v m).clock = c.record-state.ensures.times ∙ ap (fold (λ (t : ℕ) (h : ℕ × Interval). max t h.1.to) v.clock) hs in
-    λ i. record {
+    let after : ◌≡◌ {A = View} _ (taken kind v m) = λ i. record {
       setup = c.record-state.ensures.fixed i;
       clock = clock i;
       is_open = v.is_open;
@@ -31,4 +31,5 @@ returns g c m is =
       rows = rows i;
       history = history i;
       capacity = c.insert_new.ensures.fixed i;
-    }
+    } in
+    after ∙ ap (λ (v : View). taken kind v m) c.self.view_is
