@@ -6,7 +6,8 @@ use kind::Kind;
 use std::alloc::{AllocError, Global};
 use std::collections::BTreeMap;
 
-// Where an action stands in the order of actions: by time, then by coordinator, then by article.
+// Where an action stands in the order of actions: by time, then by coordinator, then by article. It is written
+// here a second time, so that the book leans on nothing of the library's.
 type Rank = (u32, u8, u8);
 
 fn rank(action: &Action) -> Rank {
@@ -16,8 +17,8 @@ fn rank(action: &Action) -> Rank {
 // What the book has of one site.
 #[derive(Drop)]
 struct Page {
-    // By article and coordinator: up to what time the site has the coordinator's actions.
-    reach: [[u32; 8]; 64],
+    // By article and coordinator: up to what time the site has the coordinator's actions, where it has any.
+    reach: BTreeMap<(u8, u8), u32>,
     // The actions of its open transaction, in the order of the writes.
     pending: Vec<Action>,
     // How many actions it has archived.
@@ -27,7 +28,7 @@ struct Page {
 impl Page {
     fn new(heap: Global) -> Page {
         Page {
-            reach: [[0; 8]; 64],
+            reach: BTreeMap::new(heap),
             pending: Vec::new(heap),
             archived: 0,
         }
@@ -35,21 +36,19 @@ impl Page {
 
     fn reach(&self, article: u8, coordinator: u8) -> u32 {
         self.reach
-            .get(article as usize)
-            .and_then(|entries| entries.get(coordinator as usize))
+            .get(&(article, coordinator))
             .copied()
             .unwrap_or(0)
     }
 
-    fn raise(&mut self, article: u8, coordinator: u8, to: u32) {
-        if let Some(entries) = self.reach.get_mut(article as usize) {
-            if let Some(entry) = entries.get_mut(coordinator as usize) {
-                *entry = (*entry).max(to);
-            }
-        }
+    fn raise(&mut self, article: u8, coordinator: u8, to: u32) -> Result<(), AllocError> {
+        let reach = self.reach.entry((article, coordinator))?.or_insert(0);
+        *reach = (*reach).max(to);
+        Ok(())
     }
 }
 
+// What the granted calls come to: what each site has, and what has been committed.
 #[derive(Drop)]
 pub(crate) struct Book {
     pages: Vec<Page>,
@@ -66,11 +65,11 @@ impl Book {
     }
 
     fn page(&self, site: u8) -> Option<&Page> {
-        self.pages.get(site as usize)
+        self.pages.get(usize::from(site))
     }
 
     fn page_mut(&mut self, site: u8) -> Option<&mut Page> {
-        self.pages.get_mut(site as usize)
+        self.pages.get_mut(usize::from(site))
     }
 
     pub(crate) fn reach(&self, site: u8, article: u8, coordinator: u8) -> u32 {
@@ -80,13 +79,8 @@ impl Book {
 
     // The greatest time that the site has reached.
     pub(crate) fn greatest(&self, site: u8) -> u32 {
-        self.page(site).map_or(0, |page| {
-            page.reach
-                .iter()
-                .flat_map(|entries| entries.iter().copied())
-                .max()
-                .unwrap_or(0)
-        })
+        self.page(site)
+            .map_or(0, |page| page.reach.values().copied().max().unwrap_or(0))
     }
 
     // How many writes the site's open transaction has.
@@ -126,7 +120,7 @@ impl Book {
             && other.time == action.time);
         self.committed.insert(rank(&action), action)?;
         if let Some(page) = self.page_mut(action.coordinator) {
-            page.raise(action.article, action.coordinator, action.time);
+            page.raise(action.article, action.coordinator, action.time)?;
         }
         Ok(is_new)
     }
@@ -145,12 +139,14 @@ impl Book {
     }
 
     // A take was granted: the site reaches what the message's intervals go up to.
-    pub(crate) fn take(&mut self, site: u8, stretches: &[Stretch]) {
-        if let Some(page) = self.page_mut(site) {
-            for stretch in stretches {
-                page.raise(stretch.article, stretch.site, stretch.to);
-            }
+    pub(crate) fn take(&mut self, site: u8, stretches: &[Stretch]) -> Result<(), AllocError> {
+        let Some(page) = self.page_mut(site) else {
+            return Ok(());
+        };
+        for stretch in stretches {
+            page.raise(stretch.article, stretch.site, stretch.to)?;
         }
+        Ok(())
     }
 
     // Does some interval begin above what the site has?
@@ -200,16 +196,15 @@ impl Book {
             .any(|action| action.article == article)
     }
 
-    // Works the figures of all articles at a site, from the committed actions that it has, each once and
-    // in order.
-    pub(crate) fn work<K: Kind>(&self, site: u8) -> [i64; 64] {
-        let mut figures = [K::start(); 64];
-        for action in self.committed.values() {
-            if self.reaches(site, action) {
-                step_by::<K>(&mut figures, action);
-            }
-        }
-        figures
+    // Works an article's figure at a site, from the committed actions that it has, each once and in order.
+    pub(crate) fn figure<K: Kind>(&self, site: u8, article: u8) -> i64 {
+        self.committed
+            .values()
+            .filter(|action| action.article == article && self.reaches(site, action))
+            .fold(
+                K::start(),
+                |figure, action| K::step(figure, action.operation, action.amount),
+            )
     }
 }
 
@@ -220,10 +215,4 @@ fn is_carried(action: &Action, stretches: &[Stretch]) -> bool {
             && stretch.site == action.coordinator
             && action.time <= stretch.to
     })
-}
-
-fn step_by<K: Kind>(figures: &mut [i64], action: &Action) {
-    if let Some(figure) = figures.get_mut(action.article as usize) {
-        *figure = K::step(*figure, action.operation, action.amount);
-    }
 }

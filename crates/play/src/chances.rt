@@ -35,6 +35,7 @@ impl Dice {
         if n == 0 {
             return 0;
         }
+        // The rest is below `n`, so the cast is proved to lose nothing; `try_from` would ask what to do where it does.
         ((self.next() >> 32) % u64::from(n)) as u32
     }
 
@@ -51,6 +52,6 @@ impl Dice {
 
     // Any number of 32 bits, signed.
     pub(crate) fn any(&mut self) -> i32 {
-        i32::from_be_bytes(self.below(u32::MAX).to_be_bytes())
+        self.below(u32::MAX).cast_signed()
     }
 }

@@ -6,7 +6,7 @@ use crate::runs::Run;
 use crate::slots::{SLOT_BYTES, Space};
 use crate::stops::Stop;
 use crate::walks::{Stretch, stretches};
-use action::Refusal;
+use action::{Action, Refusal};
 use kind::Kind;
 use std::alloc::AllocError;
 use table::TableFault;
@@ -18,7 +18,15 @@ pub(crate) struct Line {
     // What the call has to be refused by.
     due: Option<Due>,
     // What the site's table showed before the call.
-    shown: Vec<i64>,
+    shown: Vec<Option<i64>>,
+}
+
+// An offer of an article, from a site to a peer.
+#[derive(Clone, Copy)]
+pub(crate) struct Offer {
+    pub(crate) site: u8,
+    pub(crate) peer: u8,
+    pub(crate) article: u8,
 }
 
 impl<K: Kind + Drop, J: Kind + Drop> Run<K, J> {
@@ -51,54 +59,57 @@ impl<K: Kind + Drop, J: Kind + Drop> Run<K, J> {
         Ok(())
     }
 
+    // Does an offer carry the action? The peer is not known to have it, and the site has it.
+    fn is_offered(&self, offer: Offer, action: &Action) -> bool {
+        let Offer {
+            site,
+            peer,
+            article,
+        } = offer;
+        action.article == article
+            && self.book.reaches(site, action)
+            && self
+                .known(site, article, peer, action.coordinator)
+                .is_some_and(|known| known < action.time)
+    }
+
     // How long the offer has to be: it carries what the peer is not known to have.
-    fn offer_length(&self, site: u8, peer: u8, article: u8) -> usize {
+    fn offer_length(&self, offer: Offer) -> usize {
         let carried = self
             .book
             .committed
             .values()
-            .filter(|action| {
-                action.article == article
-                    && self.book.reaches(site, action)
-                    && action.time > self.known(site, article, peer, action.coordinator)
-            })
+            .filter(|action| self.is_offered(offer, action))
             .count();
         carried
             .wrapping_mul(16)
-            .wrapping_add(11 + 10 * self.sites as usize)
+            .wrapping_add(11 + 10 * usize::from(self.sites))
     }
 
     // Offers, and holds the message in its slot where it is granted.
     fn offer_into(
         &mut self,
-        site: u8,
-        peer: u8,
-        article: u8,
+        offer: Offer,
         space: Space,
     ) -> Result<Option<Result<usize, TableFault>>, AllocError> {
-        let Some(table) = self.table(site) else {
+        let Some(table) = self.table(offer.site) else {
             return Ok(None);
         };
         let mut buffer = [0; SLOT_BYTES];
         let most = space.most.min(SLOT_BYTES);
-        let answer = table.offer(peer, article, &mut buffer[..most]);
+        let answer = table.offer(offer.peer, offer.article, &mut buffer[..most]);
         if let Ok(length) = answer {
             self.put(space.slot, &buffer[..length.min(most)])?;
         }
         Ok(Some(answer))
     }
 
-    pub(crate) fn offer_line(
-        &mut self,
-        site: u8,
-        peer: u8,
-        article: u8,
-        space: Space,
-    ) -> Result<(), Stop> {
-        let length = self.offer_length(site, peer, article);
-        let due = if article >= self.articles {
+    pub(crate) fn offer_line(&mut self, offer: Offer, space: Space) -> Result<(), Stop> {
+        let site = offer.site;
+        let length = self.offer_length(offer);
+        let due = if offer.article >= self.articles {
             Some(Due::NoArticle)
-        } else if peer >= self.sites {
+        } else if offer.peer >= self.sites {
             Some(Due::NoSite)
         } else if length > space.most.min(SLOT_BYTES) {
             Some(Due::Short)
@@ -106,7 +117,7 @@ impl<K: Kind + Drop, J: Kind + Drop> Run<K, J> {
             None
         };
         let line = self.begin(site, due)?;
-        let Some(answer) = self.offer_into(site, peer, article, space)? else {
+        let Some(answer) = self.offer_into(offer, space)? else {
             return Ok(());
         };
         if let Ok(answer) = answer {
@@ -133,17 +144,25 @@ impl<K: Kind + Drop, J: Kind + Drop> Run<K, J> {
 
     // Takes the message in the slot.
     fn take_from(&mut self, site: u8, slot: u8) -> Option<Result<usize, TableFault>> {
-        let message = self.slots.get(slot as usize)?.message();
-        let seat = self.seats.get_mut(site as usize)?;
+        let message = self.slots.get(usize::from(slot))?.message();
+        // Not `seat_mut`, which would borrow the slots too.
+        let seat = self.seats.get_mut(usize::from(site))?;
         Some(seat.take(message))
     }
 
     // The take of a message is entered; it answered how many actions were new.
-    fn enter_take(&mut self, site: u8, slot: u8, told: &[Stretch], count: usize) {
-        self.book.take(site, told);
+    fn enter_take(
+        &mut self,
+        site: u8,
+        slot: u8,
+        told: &[Stretch],
+        count: usize,
+    ) -> Result<(), AllocError> {
+        self.book.take(site, told)?;
         up(&mut self.counts.taken, count);
-        if let Some(slot) = self.slots.get_mut(slot as usize) {
-            slot.note_take(site);
+        match self.slots.get_mut(usize::from(slot)) {
+            Some(slot) => slot.note_take(site),
+            None => Ok(()),
         }
     }
 
@@ -162,7 +181,7 @@ impl<K: Kind + Drop, J: Kind + Drop> Run<K, J> {
     }
 
     pub(crate) fn take_line(&mut self, site: u8, slot: u8) -> Result<(), Stop> {
-        let Some(held) = self.slots.get(slot as usize) else {
+        let Some(held) = self.slots.get(usize::from(slot)) else {
             return Ok(());
         };
         let told = stretches(self.heap, held.message())?;
@@ -174,7 +193,7 @@ impl<K: Kind + Drop, J: Kind + Drop> Run<K, J> {
         };
         if let Ok(count) = answer {
             self.counts.hold(Law::Answer, site, count == news);
-            self.enter_take(site, slot, &told, count);
+            self.enter_take(site, slot, &told, count)?;
         }
         if is_repeat {
             self.check_repeat(&line, answer)?;
@@ -185,7 +204,7 @@ impl<K: Kind + Drop, J: Kind + Drop> Run<K, J> {
 
     // A take of bytes that no table wrote, which has to be refused.
     pub(crate) fn forged_line(&mut self, site: u8, slot: u8) -> Result<(), Stop> {
-        let Some(held) = self.slots.get(slot as usize) else {
+        let Some(held) = self.slots.get(usize::from(slot)) else {
             return Ok(());
         };
         let mut copy = Vec::from_slice(self.heap, held.message())?;
@@ -196,7 +215,7 @@ impl<K: Kind + Drop, J: Kind + Drop> Run<K, J> {
             forged
         };
         let line = self.begin(site, Some(due))?;
-        let Some(seat) = self.seats.get_mut(site as usize) else {
+        let Some(seat) = self.seat_mut(site) else {
             return Ok(());
         };
         let answer = seat.take(&copy);
@@ -213,7 +232,7 @@ impl<K: Kind + Drop, J: Kind + Drop> Run<K, J> {
             None
         };
         let line = self.begin(site, due)?;
-        let Some(seat) = self.seats.get_mut(site as usize) else {
+        let Some(seat) = self.seat_mut(site) else {
             return Ok(());
         };
         let answer = seat.archive(article);

@@ -14,6 +14,7 @@ mod laws;
 mod levels;
 mod lines;
 mod makes;
+mod outsiders;
 mod picks;
 mod plays;
 mod reports;
@@ -24,7 +25,7 @@ mod stops;
 mod transactions;
 mod walks;
 
-use crate::makes::Stranger;
+use crate::outsiders::Stranger;
 use crate::plays::play_run;
 use crate::reports::Counts;
 use crate::stops::Stop;
@@ -40,7 +41,8 @@ struct Wish {
     lines: u32,
 }
 
-// A run of one kind; `J` is another one.
+// A run of one kind; `J` is another one. The outsiders take turns, each when all kinds have had the one before.
+// Here and below the runtime stays a parameter beside the counts, since it is passed by itself everywhere.
 fn play_kind<K: Kind + Drop, J: Kind + Drop>(
     rt: &HostRuntime,
     counts: &mut Counts,
@@ -56,7 +58,7 @@ fn play_kind<K: Kind + Drop, J: Kind + Drop>(
     }
 }
 
-// All runs, until one is not as it has to be. The kinds take turns.
+// All runs, until one is not as it has to be. The kinds take turns, by the run's number, since no list holds types.
 fn play_all(rt: &HostRuntime, counts: &mut Counts, wish: Wish) -> Result<(), Stop> {
     for run in 0..wish.runs {
         counts.begin(run);
@@ -88,7 +90,7 @@ fn print_outcome(rt: &HostRuntime, counts: &Counts, is_whole: bool) -> io::Resul
     println!(rt; "laws hold: a {figures}, b {levels} ({moved_levels} with actions), c {repeats}")
 }
 
-// The number that digits write.
+// The number that digits write. A longer one than fits wraps, where `parse` would refuse it: any digits are a seed.
 fn number(digits: &[u8]) -> u64 {
     digits.iter().fold(0, |number: u64, digit| {
         let digit = u64::from(digit.wrapping_sub(b'0'));

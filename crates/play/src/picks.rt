@@ -1,6 +1,7 @@
 // What a line is given, by chance.
 use crate::chances::Dice;
-use crate::runs::{Run, SLOTS, STRANGER};
+use crate::outsiders::MOST_SITES;
+use crate::runs::{Run, SLOTS};
 use crate::slots::{SLOT_BYTES, Space};
 use kind::Kind;
 
@@ -8,6 +9,7 @@ use kind::Kind;
 #[derive(Clone, Copy)]
 pub(crate) struct Movement {
     pub(crate) article: u8,
+    // A number, since each kind has operations of its own, and some pairs are to be refused.
     pub(crate) operation: u8,
     pub(crate) amount: i32,
 }
@@ -19,7 +21,7 @@ pub(crate) enum Holder {
     // Another site of the group.
     Site(u8),
     // The table outside the group.
-    Stranger,
+    Outsider,
 }
 
 // A number from 0 to `most`.
@@ -43,12 +45,23 @@ fn pick_pair<K: Kind>(dice: &mut Dice) -> (u8, i32) {
     let knows = !dice.chance(5);
     let mut pair = (1, 1);
     for _ in 0..16 {
-        pair = (dice.byte(4), pick_amount(dice));
-        if K::is_known(pair.0, pair.1) == knows {
+        let (operation, amount) = (dice.byte(4), pick_amount(dice));
+        pair = (operation, amount);
+        if K::is_known(operation, amount) == knows {
             break;
         }
     }
     pair
+}
+
+// Any site that a group may have, or the outsider.
+fn pick_other(dice: &mut Dice) -> Holder {
+    let site = dice.byte(MOST_SITES + 1);
+    if site < MOST_SITES {
+        Holder::Site(site)
+    } else {
+        Holder::Outsider
+    }
 }
 
 // How many bytes a message may have: mostly a whole slot, or too few for some messages.
@@ -56,7 +69,7 @@ pub(crate) fn pick_most(dice: &mut Dice) -> usize {
     if dice.chance(80) {
         SLOT_BYTES
     } else {
-        dice.below(120) as usize
+        usize::from(dice.byte(120))
     }
 }
 
@@ -97,18 +110,19 @@ impl<K: Kind + Drop, J: Kind + Drop> Run<K, J> {
         }
     }
 
-    // Does the stranger's ticket have to be refused at the site? That of a twin fits a table whose clock
-    // is still 0 as its own does.
-    fn is_strange_at(&self, site: u8) -> bool {
-        self.stranger.holds() && !(self.has_twin && self.book.greatest(site) == 0)
+    // Has the holder a ticket that the site has to refuse?
+    fn is_wrong_at(&self, site: u8, holder: Holder) -> bool {
+        match holder {
+            Holder::Own => false,
+            Holder::Site(other) => other != site && self.holds(other),
+            Holder::Outsider => self.outsider.is_strange_at(self.book.greatest(site)),
+        }
     }
 
     // One with another ticket than the site's own, where there is one.
     fn pick_wrong(&mut self, site: u8) -> Option<Holder> {
-        match self.dice.byte(STRANGER + 1) {
-            STRANGER => self.is_strange_at(site).then_some(Holder::Stranger),
-            other => (other != site && self.holds(other)).then_some(Holder::Site(other)),
-        }
+        let holder = pick_other(&mut self.dice);
+        self.is_wrong_at(site, holder).then_some(holder)
     }
 
     // Whose ticket a line at the site goes by: the own one, or now and then a wrong one.

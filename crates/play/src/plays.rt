@@ -1,12 +1,15 @@
 // A run from its beginning to its end, with lines by chance.
 use crate::chances::Dice;
-use crate::makes::{Stranger, make_run};
-use crate::picks::{Holder, pick_most, pick_space};
-use crate::reports::{Counts, Law};
-use crate::runs::{Run, SLOTS, STRANGER};
-use crate::seats::Ending;
+use crate::lines::Offer;
+use crate::makes::make_run;
+use crate::outsiders::Stranger;
+use crate::picks::{pick_most, pick_space};
+use crate::reports::{Counts, Law, Place};
+use crate::runs::{Run, SLOTS};
+use crate::seats::Abandon;
 use crate::slots::Space;
 use crate::stops::Stop;
+use crate::transactions::Turn;
 use kind::Kind;
 
 // A call that goes by a ticket.
@@ -57,16 +60,17 @@ impl<K: Kind + Drop, J: Kind + Drop> Run<K, J> {
         let Some(by) = self.pick_holder(site) else {
             return self.open_line(site);
         };
+        let turn = Turn { site, by };
         match call {
             ByTicket::Write => {
                 let movement = self.pick_movement();
-                self.write_line(site, by, movement)
+                self.write_line(turn, movement)
             }
             ByTicket::Commit => {
                 let space = pick_space(&mut self.dice);
-                self.commit_line(site, by, space)
+                self.commit_line(turn, space)
             }
-            ByTicket::Abandon => self.abandon_line(site, by),
+            ByTicket::Abandon => self.abandon_line(turn),
         }
     }
 
@@ -88,7 +92,12 @@ impl<K: Kind + Drop, J: Kind + Drop> Run<K, J> {
             Plain::Offer => {
                 let peer = self.pick_peer();
                 let most = pick_most(&mut self.dice);
-                self.offer_line(site, peer, article, Space { slot, most })
+                let offer = Offer {
+                    site,
+                    peer,
+                    article,
+                };
+                self.offer_line(offer, Space { slot, most })
             }
             Plain::Take => self.take_lines(site),
             Plain::Forged => self.forged_line(site, slot),
@@ -139,12 +148,12 @@ impl<K: Kind + Drop, J: Kind + Drop> Run<K, J> {
 
     // The ticket of the table outside the group goes round too, and has to be refused everywhere.
     fn play(&mut self, lines: u32) -> Result<(), Stop> {
-        let _ = self.stranger.open();
+        let _ = self.outsider.seat.open();
         self.play_lines(lines)?;
         self.close()?;
-        let _ = self.stranger.end(Ending::Abandon, &mut []);
-        let is_spent = !self.stranger.holds();
-        self.counts.hold(Law::Refusal, STRANGER, is_spent);
+        let _ = self.outsider.seat.call(Abandon);
+        let is_spent = !self.outsider.seat.holds();
+        self.counts.hold(Law::Refusal, Place::Outsider, is_spent);
         Ok(())
     }
 }

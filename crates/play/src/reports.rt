@@ -1,4 +1,5 @@
 // What has been met and checked, and the first thing that was not as it has to be.
+use crate::outsiders::MOST_SITES;
 use std::fmt;
 
 // What the program holds a run to.
@@ -43,6 +44,30 @@ impl fmt::Display for Law {
     }
 }
 
+// Whose table is held to a law.
+#[derive(Clone, Copy)]
+pub(crate) enum Place {
+    Site(u8),
+    // The table outside the group, which is printed as the number behind those of all sites.
+    Outsider,
+}
+
+impl From<u8> for Place {
+    fn from(site: u8) -> Place {
+        Place::Site(site)
+    }
+}
+
+impl fmt::Display for Place {
+    fn fmt<W: fmt::Write>(&self, f: &mut fmt::Formatter<W>) -> fmt::Result {
+        let number = match *self {
+            Place::Site(site) => site,
+            Place::Outsider => MOST_SITES,
+        };
+        write!(f, "{number}")
+    }
+}
+
 // Where a run first was not as it has to be.
 #[derive(Clone, Copy)]
 pub(crate) struct Broken {
@@ -50,7 +75,7 @@ pub(crate) struct Broken {
     seed: u64,
     run: u32,
     line: u32,
-    site: u8,
+    place: Place,
 }
 
 impl fmt::Display for Broken {
@@ -60,38 +85,39 @@ impl fmt::Display for Broken {
             seed,
             run,
             line,
-            site,
+            place,
         } = *self;
         write!(
             f,
-            "{law} (seed {seed}, run {run}, line {line}, site {site})"
+            "{law} (seed {seed}, run {run}, line {line}, site {place})"
         )
     }
 }
 
+// What all runs so far have met, what is checked now, and the first thing that was not as it has to be.
 #[derive(Clone, Copy, Default)]
 pub(crate) struct Counts {
     seed: u64,
     run: u32,
     // The number of the line within its run.
     line: u32,
-    lines: u64,
-    granted: u64,
-    // By the refusal's number.
-    refused: [u64; 19],
-    pub(crate) committed: u64,
-    pub(crate) taken: u64,
-    pub(crate) archived: u64,
-    pub(crate) figures: u64,
-    pub(crate) levels: u64,
-    pub(crate) moved_levels: u64,
-    pub(crate) repeats: u64,
+    lines: usize,
+    granted: usize,
+    // By the refusal's number. No number is above 18, so that an array has room for each; it is copied with the rest.
+    refused: [usize; 19],
+    pub(crate) committed: usize,
+    pub(crate) taken: usize,
+    pub(crate) archived: usize,
+    pub(crate) figures: usize,
+    pub(crate) levels: usize,
+    pub(crate) moved_levels: usize,
+    pub(crate) repeats: usize,
     pub(crate) broken: Option<Broken>,
 }
 
 // So many more; it would take longer than anyone waits until this wraps.
-pub(crate) fn up(count: &mut u64, by: usize) {
-    *count = (*count).wrapping_add(by as u64);
+pub(crate) fn up(count: &mut usize, by: usize) {
+    *count = (*count).wrapping_add(by);
 }
 
 impl Counts {
@@ -114,7 +140,7 @@ impl Counts {
         match refused {
             None => up(&mut self.granted, 1),
             Some(number) => {
-                if let Some(count) = self.refused.get_mut(number as usize) {
+                if let Some(count) = self.refused.get_mut(usize::from(number)) {
                     up(count, 1);
                 }
             }
@@ -122,14 +148,14 @@ impl Counts {
     }
 
     // Notes the first time that something is not as it has to be.
-    pub(crate) fn hold(&mut self, law: Law, site: u8, is_kept: bool) {
+    pub(crate) fn hold<P: Into<Place> + Drop>(&mut self, law: Law, place: P, is_kept: bool) {
         if !is_kept && self.broken.is_none() {
             self.broken = Some(Broken {
                 law,
                 seed: self.seed,
                 run: self.run,
                 line: self.line,
-                site,
+                place: place.into(),
             });
         }
     }

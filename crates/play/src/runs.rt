@@ -1,6 +1,7 @@
 // One run: the tables of one group, the messages that wait, and the book.
 use crate::books::Book;
 use crate::chances::Dice;
+use crate::outsiders::Outsider;
 use crate::reports::Counts;
 use crate::seats::Seat;
 use crate::slots::Slot;
@@ -13,9 +14,6 @@ use table::Table;
 // How many messages wait at a time; an older one is lost when another goes into its slot.
 pub(crate) const SLOTS: u8 = 12;
 
-// The number of the table outside the group, behind those of the sites.
-pub(crate) const STRANGER: u8 = 8;
-
 // A site's table stands on either of the two histories.
 pub(crate) type Shelf = Either<Rack, Strip>;
 
@@ -27,9 +25,7 @@ pub(crate) struct Run<K: Kind + Drop, J: Kind + Drop> {
     pub(crate) articles: u8,
     // By site.
     pub(crate) seats: Vec<Seat<K, Shelf>>,
-    pub(crate) stranger: Seat<J, Shelf>,
-    // Does the stranger's ticket bear the group and the kind of this run? Then it fits where no time has passed.
-    pub(crate) has_twin: bool,
+    pub(crate) outsider: Outsider<J>,
     pub(crate) slots: Vec<Slot>,
     pub(crate) book: Book,
     pub(crate) dice: Dice,
@@ -38,7 +34,11 @@ pub(crate) struct Run<K: Kind + Drop, J: Kind + Drop> {
 
 impl<K: Kind + Drop, J: Kind + Drop> Run<K, J> {
     fn seat(&self, site: u8) -> Option<&Seat<K, Shelf>> {
-        self.seats.get(site as usize)
+        self.seats.get(usize::from(site))
+    }
+
+    pub(crate) fn seat_mut(&mut self, site: u8) -> Option<&mut Seat<K, Shelf>> {
+        self.seats.get_mut(usize::from(site))
     }
 
     pub(crate) fn table(&self, site: u8) -> Option<&Table<K, Shelf>> {
@@ -52,7 +52,7 @@ impl<K: Kind + Drop, J: Kind + Drop> Run<K, J> {
 
     // Puts a message into a slot.
     pub(crate) fn put(&mut self, slot: u8, message: &[u8]) -> Result<(), AllocError> {
-        match self.slots.get_mut(slot as usize) {
+        match self.slots.get_mut(usize::from(slot)) {
             Some(slot) => slot.hold(message),
             None => Ok(()),
         }
@@ -64,29 +64,27 @@ impl<K: Kind + Drop, J: Kind + Drop> Run<K, J> {
         places.saturating_sub(self.book.kept(site))
     }
 
-    pub(crate) fn clock(&self, site: u8) -> u32 {
-        self.table(site).map_or(0, |table| table.clock())
+    // What a table shows; `None` where there is no such table, article or site. A site and an article stay two
+    // numbers here and below, as they are in the calls of a table.
+    pub(crate) fn clock(&self, site: u8) -> Option<u32> {
+        Some(self.table(site)?.clock())
     }
 
-    pub(crate) fn figure(&self, site: u8, article: u8) -> i64 {
-        self.table(site)
-            .map_or(0, |table| table.figure(article).unwrap_or(0))
+    pub(crate) fn figure(&self, site: u8, article: u8) -> Option<i64> {
+        self.table(site)?.figure(article).ok()
     }
 
-    pub(crate) fn known(&self, site: u8, article: u8, z: u8, q: u8) -> u32 {
-        self.table(site).map_or(u32::MAX, |table| {
-            table.known(article, z, q).unwrap_or(u32::MAX)
-        })
+    pub(crate) fn known(&self, site: u8, article: u8, z: u8, q: u8) -> Option<u32> {
+        self.table(site)?.known(article, z, q).ok()
     }
 
-    pub(crate) fn open_item(&self, site: u8, article: u8, peer: u8) -> bool {
-        self.table(site)
-            .is_none_or(|table| table.open_item(article, peer).unwrap_or(true))
+    pub(crate) fn open_item(&self, site: u8, article: u8, peer: u8) -> Option<bool> {
+        self.table(site)?.open_item(article, peer).ok()
     }
 
     // All that a site's table shows: its clock, and for each article the figure and the known entries.
-    pub(crate) fn shown(&self, site: u8) -> Result<Vec<i64>, AllocError> {
-        let mut shown = vec![in self.heap; i64::from(self.clock(site))]?;
+    pub(crate) fn shown(&self, site: u8) -> Result<Vec<Option<i64>>, AllocError> {
+        let mut shown = vec![in self.heap; self.clock(site).map(i64::from)]?;
         for article in 0..self.articles {
             shown.push(self.figure(site, article))?;
             self.show_known(site, article, &mut shown)?;
@@ -94,9 +92,14 @@ impl<K: Kind + Drop, J: Kind + Drop> Run<K, J> {
         Ok(shown)
     }
 
-    fn show_known(&self, site: u8, article: u8, shown: &mut Vec<i64>) -> Result<(), AllocError> {
+    fn show_known(
+        &self,
+        site: u8,
+        article: u8,
+        shown: &mut Vec<Option<i64>>,
+    ) -> Result<(), AllocError> {
         for z in 0..self.sites {
-            shown.extend((0..self.sites).map(|q| i64::from(self.known(site, article, z, q))))?;
+            shown.extend((0..self.sites).map(|q| self.known(site, article, z, q).map(i64::from)))?;
         }
         Ok(())
     }

@@ -1,5 +1,6 @@
 // A table and the ticket of its open transaction, which cannot be let go: a seat that is let go abandons by it.
-ghost use Rattle.std.specs.Prelude.{◌≡◌, ◌≤◌, true, Some, None, MatchResult, length};
+ghost use Rattle.std.specs.Prelude.{◌≡◌, true, Some, None, MatchResult};
+ghost use Rattle.play.specs.Calls.{Fair};
 ghost use Rattle.table.specs.Transactions.{holds};
 
 use crate::picks::Movement;
@@ -7,11 +8,85 @@ use history::History;
 use kind::Kind;
 use table::{Table, TableFault, Ticket};
 
-// How a transaction ends.
-#[derive(Clone, Copy)]
-pub(crate) enum Ending {
-    Commit,
-    Abandon,
+// What a call by a ticket answered, and the ticket where the call did not spend it.
+pub(crate) type Answered<T> = (Result<T, TableFault>, Option<Ticket>);
+
+// A call by a ticket. It is a trait and no closure, since a bound on a closure that takes a table cannot be stated yet.
+pub(crate) trait Call: Drop {
+    type Answer;
+
+    fn make<K: Kind, H: History>(
+        self,
+        table: &mut Table<K, H>,
+        ticket: Ticket,
+    ) -> Answered<Self::Answer>
+        ensures { Fair K.means table.old ticket result.1 table.new };
+}
+
+// An end of a transaction that is granted spends the ticket, and one that is refused hands it back.
+fn ended<T>(end: Result<T, (TableFault, Ticket)>) -> Answered<T>
+    ensures { MatchResult end (λ _. result.1 ≡ None) (λ e. result.1 ≡ Some e.1) }
+{
+    match end {
+        Ok(done) => (Ok(done), None),
+        Err((fault, ticket)) => (Err(fault), Some(ticket)),
+    }
+}
+
+// Writes, and answers the time.
+#[derive(Drop)]
+pub(crate) struct Write(pub(crate) Movement);
+
+impl Call for Write {
+    type Answer = u32;
+
+    fn make<K: Kind, H: History>(self, table: &mut Table<K, H>, ticket: Ticket) -> Answered<u32> {
+        let Movement {
+            article,
+            operation,
+            amount,
+        } = self.0;
+        let answer = table.write(&ticket, article, operation, amount);
+        (answer, Some(ticket))
+    }
+}
+
+// Commits, and answers how many actions there were, and how many bytes of a message were written.
+#[derive(Drop)]
+pub(crate) struct Commit<'a>(pub(crate) &'a mut [u8]);
+
+impl Call for Commit<'_> {
+    type Answer = (usize, usize);
+
+    fn make<K: Kind, H: History>(
+        self,
+        table: &mut Table<K, H>,
+        ticket: Ticket,
+    ) -> Answered<(usize, usize)> {
+        ended(table.commit(ticket, self.0))
+    }
+}
+
+#[derive(Drop)]
+pub(crate) struct Abandon;
+
+impl Call for Abandon {
+    type Answer = ();
+
+    fn make<K: Kind, H: History>(self, table: &mut Table<K, H>, ticket: Ticket) -> Answered<()> {
+        ended(table.abandon(ticket))
+    }
+}
+
+// Puts a ticket, if there is one, where there is none.
+fn put_back(hand: &mut Option<Ticket>, ticket: Option<Ticket>)
+    requires { hand.old ≡ None }
+    ensures { hand.new ≡ ticket }
+{
+    match std::mem::replace(hand, ticket) {
+        None => {}
+        Some(_) => unreachable(),
+    }
 }
 
 // A table, how many places its history has, and the ticket that it gave out and has not got back.
@@ -20,43 +95,6 @@ pub(crate) struct Seat<K: Kind + Drop, H: History + Drop> {
     pub(crate) places: usize,
     ticket: Option<Ticket>,
     ghost own: { (t : _) → ticket ≡ Some t → holds K.means table t ≡ true },
-}
-
-// Ends the open transaction, unless the ticket is not its own, which comes back then. Answers how many
-// actions it had, and how many bytes of a message were written.
-fn end<K: Kind, H: History>(
-    table: &mut Table<K, H>,
-    ticket: Ticket,
-    ending: Ending,
-    buffer: &mut [u8],
-) -> Result<(usize, usize), (TableFault, Ticket)>
-    ensures { MatchResult result (λ _. holds K.means table.old ticket ≡ true) (λ e. (e.1 ≡ ticket) × (table.new ≡ table.old)) }
-{
-    match ending {
-        Ending::Commit => table.commit(ticket, buffer),
-        Ending::Abandon => match table.abandon(ticket) {
-            Ok(()) => Ok((0, 0)),
-            Err(refused) => Err(refused),
-        },
-    }
-}
-
-// Puts a ticket where there is none.
-fn put_back(hand: &mut Option<Ticket>, ticket: Ticket)
-    requires { hand.old ≡ None }
-    ensures { hand.new ≡ Some ticket }
-{
-    match hand.replace(ticket) {
-        None => {}
-        Some(_) => unreachable(),
-    }
-}
-
-// Abandons the open transaction. That is not refused, since the ticket is the table's own.
-fn give_up<K: Kind, H: History>(table: &mut Table<K, H>, ticket: Ticket)
-    requires { holds K.means table.old ticket ≡ true }
-{
-    table.abandon(ticket).unwrap();
 }
 
 impl<K: Kind + Drop, H: History + Drop> Seat<K, H> {
@@ -80,76 +118,31 @@ impl<K: Kind + Drop, H: History + Drop> Seat<K, H> {
     // Opens a transaction. No table gives out a second ticket.
     pub(crate) fn open(&mut self) -> Result<(), TableFault> {
         let ticket = self.table.open()?;
-        match self.ticket.replace(ticket) {
-            None => Ok(()),
-            Some(_) => unreachable(),
-        }
+        put_back(&mut self.ticket, Some(ticket));
+        Ok(())
     }
 
-    // Writes by the own ticket; `None` where there is none.
-    pub(crate) fn write(&mut self, movement: Movement) -> Option<Result<u32, TableFault>> {
-        let Movement {
-            article,
-            operation,
-            amount,
-        } = movement;
-        match &self.ticket {
-            None => None,
-            Some(ticket) => Some(self.table.write(ticket, article, operation, amount)),
-        }
-    }
-
-    // Writes by the ticket of another seat.
-    pub(crate) fn write_by<J: Kind + Drop>(
-        &mut self,
-        other: &Seat<J, H>,
-        movement: Movement,
-    ) -> Option<Result<u32, TableFault>> {
-        let Movement {
-            article,
-            operation,
-            amount,
-        } = movement;
-        match &other.ticket {
-            None => None,
-            Some(ticket) => Some(self.table.write(ticket, article, operation, amount)),
-        }
-    }
-
-    // Ends the transaction by the own ticket; `None` where there is none.
-    pub(crate) fn end(
-        &mut self,
-        ending: Ending,
-        buffer: &mut [u8],
-    ) -> Option<Result<(usize, usize), TableFault>> {
+    // Makes a call by the own ticket; `None` where there is none.
+    pub(crate) fn call<C: Call>(&mut self, call: C) -> Option<Result<C::Answer, TableFault>> {
         let ticket = self.ticket.take()?;
-        match end(&mut self.table, ticket, ending, buffer) {
-            Ok(done) => Some(Ok(done)),
-            Err((fault, back)) => {
-                put_back(&mut self.ticket, back);
-                Some(Err(fault))
-            }
-        }
+        let (answer, back) = call.make(&mut self.table, ticket);
+        put_back(&mut self.ticket, back);
+        Some(answer)
     }
 
-    // Ends the transaction by the ticket of another seat. One that fits is as the own one, which takes its place.
-    pub(crate) fn end_by<J: Kind + Drop>(
+    // Makes a call by the ticket of another seat. One that is spent was as the own one, which takes its place.
+    pub(crate) fn call_by<J: Kind + Drop, C: Call>(
         &mut self,
         other: &mut Seat<J, H>,
-        ending: Ending,
-        buffer: &mut [u8],
-    ) -> Option<Result<(usize, usize), TableFault>> {
+        call: C,
+    ) -> Option<Result<C::Answer, TableFault>> {
         let ticket = other.ticket.take()?;
-        match end(&mut self.table, ticket, ending, buffer) {
-            Ok(done) => {
-                std::mem::swap(&mut self.ticket, &mut other.ticket);
-                Some(Ok(done))
-            }
-            Err((fault, back)) => {
-                put_back(&mut other.ticket, back);
-                Some(Err(fault))
-            }
+        let (answer, back) = call.make(&mut self.table, ticket);
+        match back {
+            None => std::mem::swap(&mut self.ticket, &mut other.ticket),
+            back => put_back(&mut other.ticket, back),
         }
+        Some(answer)
     }
 
     pub(crate) fn take(&mut self, bytes: &[u8]) -> Result<usize, TableFault> {
@@ -162,6 +155,7 @@ impl<K: Kind + Drop, H: History + Drop> Seat<K, H> {
 }
 
 impl<K: Kind + Drop, H: History + Drop> Drop for Seat<K, H> {
+    // The abandon is not refused, since the ticket is the table's own.
     fn drop(self) {
         let Seat {
             mut table,
@@ -169,7 +163,7 @@ impl<K: Kind + Drop, H: History + Drop> Drop for Seat<K, H> {
             ticket,
         } = self;
         if let Some(ticket) = ticket {
-            give_up(&mut table, ticket);
+            table.abandon(ticket).unwrap();
         }
     }
 }

@@ -1,5 +1,6 @@
 // Where messages wait to be taken.
 use std::alloc::{AllocError, Global};
+use std::collections::BTreeSet;
 
 // The longest offer of a history of 120 places, with eight sites, has 11 + 80 + 1,920 bytes.
 pub(crate) const SLOT_BYTES: usize = 2048;
@@ -8,15 +9,15 @@ pub(crate) const SLOT_BYTES: usize = 2048;
 #[derive(Drop)]
 pub(crate) struct Slot {
     message: Vec<u8>,
-    // By site: has it taken this very message before?
-    taken: [bool; 8],
+    // The sites that have taken this very message.
+    taken: BTreeSet<u8>,
 }
 
 impl Slot {
     pub(crate) fn empty(heap: Global) -> Slot {
         Slot {
             message: Vec::new(heap),
-            taken: [false; 8],
+            taken: BTreeSet::new(heap),
         }
     }
 
@@ -26,19 +27,18 @@ impl Slot {
 
     // Holds another message from now on.
     pub(crate) fn hold(&mut self, message: &[u8]) -> Result<(), AllocError> {
-        self.taken = [false; 8];
+        self.taken.clear();
         self.message.clear();
         self.message.extend_from_slice(message)
     }
 
     pub(crate) fn was_taken(&self, site: u8) -> bool {
-        self.taken.get(site as usize).copied().unwrap_or(false)
+        self.taken.contains(&site)
     }
 
-    pub(crate) fn note_take(&mut self, site: u8) {
-        if let Some(taken) = self.taken.get_mut(site as usize) {
-            *taken = true;
-        }
+    pub(crate) fn note_take(&mut self, site: u8) -> Result<(), AllocError> {
+        self.taken.insert(site)?;
+        Ok(())
     }
 }
 

@@ -3,15 +3,33 @@ use crate::dues::Due;
 use crate::picks::{Holder, Movement};
 use crate::reports::{Law, up};
 use crate::runs::Run;
-use crate::seats::Ending;
+use crate::seats::{Abandon, Call, Commit, Write};
 use crate::slots::{SLOT_BYTES, Space};
 use crate::stops::Stop;
 use action::MOST_WRITES;
 use kind::Kind;
 use table::TableFault;
 
-// Two different ones of a slice.
-fn pair<T>(items: &mut [T], one: usize, other: usize) -> Option<(&mut T, &mut T)> {
+// At which site a call is made, and by whose ticket.
+#[derive(Clone, Copy)]
+pub(crate) struct Turn {
+    pub(crate) site: u8,
+    pub(crate) by: Holder,
+}
+
+impl Turn {
+    // A call by the site's own ticket.
+    pub(crate) fn own(site: u8) -> Turn {
+        Turn {
+            site,
+            by: Holder::Own,
+        }
+    }
+}
+
+// Two different ones of a slice; the library has no `get_disjoint_mut`.
+fn pair<T>(items: &mut [T], one: u8, other: u8) -> Option<(&mut T, &mut T)> {
+    let (one, other) = (usize::from(one), usize::from(other));
     if one < other {
         let (low, high) = items.split_at_mut_checked(other)?;
         Some((low.get_mut(one)?, high.first_mut()?))
@@ -23,10 +41,27 @@ fn pair<T>(items: &mut [T], one: usize, other: usize) -> Option<(&mut T, &mut T)
 }
 
 impl<K: Kind + Drop, J: Kind + Drop> Run<K, J> {
+    // Makes a call by the ticket whose turn it is; `None` where there is no such ticket.
+    fn call<C: Call>(&mut self, turn: Turn, call: C) -> Option<Result<C::Answer, TableFault>> {
+        let Turn { site, by } = turn;
+        match by {
+            Holder::Own => self.seat_mut(site)?.call(call),
+            Holder::Site(other) => {
+                let (seat, other) = pair(&mut self.seats, site, other)?;
+                seat.call_by(other, call)
+            }
+            Holder::Outsider => {
+                // Not `seat_mut`, which would borrow the outsider too.
+                let seat = self.seats.get_mut(usize::from(site))?;
+                seat.call_by(&mut self.outsider.seat, call)
+            }
+        }
+    }
+
     pub(crate) fn open_line(&mut self, site: u8) -> Result<(), Stop> {
         let due = self.holds(site).then_some(Due::AlreadyOpen);
         let line = self.begin(site, due)?;
-        let Some(seat) = self.seats.get_mut(site as usize) else {
+        let Some(seat) = self.seat_mut(site) else {
             return Ok(());
         };
         let answer = seat.open();
@@ -35,48 +70,24 @@ impl<K: Kind + Drop, J: Kind + Drop> Run<K, J> {
     }
 
     // What a write has to be refused by.
-    fn due_of_write(&self, site: u8, by: Holder, movement: Movement) -> Option<Due> {
-        if by != Holder::Own {
+    fn due_of_write(&self, turn: Turn, movement: Movement) -> Option<Due> {
+        if turn.by != Holder::Own {
             Some(Due::NotItsTicket)
         } else if movement.article >= self.articles {
             Some(Due::NoArticle)
         } else if !K::is_known(movement.operation, movement.amount) {
             Some(Due::UnknownPair)
-        } else if self.book.writes(site) >= MOST_WRITES {
+        } else if self.book.writes(turn.site) >= MOST_WRITES {
             Some(Due::TooManyWrites)
         } else {
             None
         }
     }
 
-    // Writes at the site; `None` where there is no such ticket.
-    fn write_at(
-        &mut self,
-        site: u8,
-        by: Holder,
-        movement: Movement,
-    ) -> Option<Result<u32, TableFault>> {
-        match by {
-            Holder::Own => self.seats.get_mut(site as usize)?.write(movement),
-            Holder::Site(other) => {
-                let (seat, other) = pair(&mut self.seats, site as usize, other as usize)?;
-                seat.write_by(other, movement)
-            }
-            Holder::Stranger => {
-                let seat = self.seats.get_mut(site as usize)?;
-                seat.write_by(&self.stranger, movement)
-            }
-        }
-    }
-
-    pub(crate) fn write_line(
-        &mut self,
-        site: u8,
-        by: Holder,
-        movement: Movement,
-    ) -> Result<(), Stop> {
-        let line = self.begin(site, self.due_of_write(site, by, movement))?;
-        let Some(answer) = self.write_at(site, by, movement) else {
+    pub(crate) fn write_line(&mut self, turn: Turn, movement: Movement) -> Result<(), Stop> {
+        let Turn { site, .. } = turn;
+        let line = self.begin(site, self.due_of_write(turn, movement))?;
+        let Some(answer) = self.call(turn, Write(movement)) else {
             return Ok(());
         };
         if let Ok(time) = answer {
@@ -87,32 +98,11 @@ impl<K: Kind + Drop, J: Kind + Drop> Run<K, J> {
         Ok(())
     }
 
-    // Ends a transaction at the site; `None` where there is no such ticket.
-    fn end_at(
-        &mut self,
-        site: u8,
-        by: Holder,
-        ending: Ending,
-        buffer: &mut [u8],
-    ) -> Option<Result<(usize, usize), TableFault>> {
-        match by {
-            Holder::Own => self.seats.get_mut(site as usize)?.end(ending, buffer),
-            Holder::Site(other) => {
-                let (seat, other) = pair(&mut self.seats, site as usize, other as usize)?;
-                seat.end_by(other, ending, buffer)
-            }
-            Holder::Stranger => {
-                let seat = self.seats.get_mut(site as usize)?;
-                seat.end_by(&mut self.stranger, ending, buffer)
-            }
-        }
-    }
-
     // What a commit has to be refused by.
-    fn due_of_commit(&self, site: u8, by: Holder) -> Option<Due> {
-        if by != Holder::Own {
+    fn due_of_commit(&self, turn: Turn) -> Option<Due> {
+        if turn.by != Holder::Own {
             Some(Due::NotItsTicket)
-        } else if self.book.writes(site) > self.free(site) {
+        } else if self.book.writes(turn.site) > self.free(turn.site) {
             Some(Due::Full)
         } else {
             None
@@ -129,27 +119,28 @@ impl<K: Kind + Drop, J: Kind + Drop> Run<K, J> {
         Ok(())
     }
 
-    pub(crate) fn commit_line(&mut self, site: u8, by: Holder, space: Space) -> Result<(), Stop> {
-        let line = self.begin(site, self.due_of_commit(site, by))?;
+    pub(crate) fn commit_line(&mut self, turn: Turn, space: Space) -> Result<(), Stop> {
+        let line = self.begin(turn.site, self.due_of_commit(turn))?;
         let mut buffer = [0; SLOT_BYTES];
         let most = space.most.min(SLOT_BYTES);
-        let Some(answer) = self.end_at(site, by, Ending::Commit, &mut buffer[..most]) else {
+        let Some(answer) = self.call(turn, Commit(&mut buffer[..most])) else {
             return Ok(());
         };
         if let Ok((count, length)) = answer {
             if length > 0 {
                 self.put(space.slot, &buffer[..length.min(most)])?;
             }
-            self.enter_commit(site, count)?;
+            self.enter_commit(turn.site, count)?;
         }
         self.end(line, answer.err(), answer.is_ok())?;
         Ok(())
     }
 
-    pub(crate) fn abandon_line(&mut self, site: u8, by: Holder) -> Result<(), Stop> {
+    pub(crate) fn abandon_line(&mut self, turn: Turn) -> Result<(), Stop> {
+        let Turn { site, by } = turn;
         let due = (by != Holder::Own).then_some(Due::NotItsTicket);
         let line = self.begin(site, due)?;
-        let Some(answer) = self.end_at(site, by, Ending::Abandon, &mut []) else {
+        let Some(answer) = self.call(turn, Abandon) else {
             return Ok(());
         };
         if answer.is_ok() {
