@@ -4,10 +4,11 @@
 mod faults;
 
 ghost use Rattle.std.specs.Prelude.{◌≡◌};
+ghost use Rattle.action.specs.Lawful.{Made};
 ghost use Rattle.c_api.specs.Call.{Answered, Checked};
 ghost use Rattle.c_api.specs.Faults.{as_answer};
 
-use action::Setup;
+use action::{Setup, UnlawfulSetup};
 use faults::CallFault;
 use kind::{Flags, Kind, OnHand, Price};
 use message::check;
@@ -17,10 +18,19 @@ fn actions_of<K: Kind>(setup: Setup, message: &[u8]) -> Result<i64, CallFault>
     ensures { Checked K.means setup message.now (as_answer result) }
 {
     let actions = check::<K>(setup, message)?;
+    // A message carries so few actions that `as` loses nothing, which is proved.
     Ok(actions as i64)
 }
 
-// How many actions the message carries, for the tables of a group and a kind.
+// The set-up of a group's tables. A check asks the same of all sites, so it is that of site 0.
+fn setup_of(group: u32, sites: u32, articles: u32) -> Result<Setup, UnlawfulSetup>
+    ensures { Made group sites 0 articles result }
+{
+    Setup::new(group, sites, 0, articles)
+}
+
+// How many actions the message carries, for the tables of a group and a kind, by the numbers as C
+// passes them.
 fn actions_for(
     message: &[u8],
     group: u32,
@@ -30,7 +40,7 @@ fn actions_for(
 ) -> Result<i64, CallFault>
     ensures { Answered message.now group kind sites articles (as_answer result) }
 {
-    let setup = Setup::new(group, sites, 0, articles)?;
+    let setup = setup_of(group, sites, articles)?;
     // By the numbers that the C interface gives the kinds.
     match kind {
         1 => actions_of::<OnHand>(setup, message),
@@ -44,10 +54,7 @@ fn actions_for(
 fn as_answer(counted: Result<i64, CallFault>) -> i64
     ensures { result ≡ as_answer counted }
 {
-    match counted {
-        Ok(actions) => actions,
-        Err(fault) => -i64::from(fault.number()),
-    }
+    counted.unwrap_or_else(|fault| -i64::from(fault.number()))
 }
 
 // How many actions the message carries, for the tables of a group and a kind; minus 1 for a set-up

@@ -11,7 +11,7 @@ const ROOM: usize = 37_888;
 #[derive(Drop)]
 pub struct Bag {
     bytes: Vec<u8>,
-    // How long each message is.
+    // How long each message is. A list of messages would get memory for each, and that would be measured too.
     each: usize,
 }
 
@@ -37,8 +37,8 @@ impl Bag {
     }
 
     // How many bytes all messages have.
-    pub(crate) fn size(&self) -> u64 {
-        self.bytes.len() as u64
+    pub(crate) fn size(&self) -> usize {
+        self.bytes.len()
     }
 
     pub(crate) fn sum(&self) -> u32 {

@@ -2,6 +2,7 @@ ghost use Rattle.std.specs.Prelude.{◌<◌};
 
 use crate::bags::Bag;
 use crate::histories::Made;
+use crate::jobs::Work;
 use action::Setup;
 use history::History;
 use kind::OnHand;
@@ -9,8 +10,8 @@ use std::alloc::{AllocError, Global};
 use std::ops::Range;
 use table::Table;
 
-// How many articles there are.
-const ARTICLES: u8 = 4;
+// The articles of a table.
+pub(crate) const ARTICLES: [u8; 4] = [0, 1, 2, 3];
 
 // Messages go from one site to another.
 const SENDER: u8 = 0;
@@ -32,11 +33,11 @@ pub struct Bench<H: History> {
     buffer: [u8; LONGEST],
 }
 
-// The set-up of one of three sites.
+// The set-up of one of three sites, with four articles.
 fn setup_of(site: u8) -> Setup
     requires { site < 3 }
 {
-    Setup::new(1, 3, u32::from(site), u32::from(ARTICLES)).unwrap()
+    Setup::new(1, 3, u32::from(site), 4).unwrap()
 }
 
 impl<H: History + Made + Drop> Bench<H> {
@@ -75,7 +76,8 @@ impl<H: History> Bench<H> {
             return Ok(());
         };
         for number in numbers {
-            let article = (number % 4) as u8;
+            let article = ARTICLES[number % ARTICLES.len()];
+            // `as` keeps what is below 1,000, which is proved.
             let amount = (number % 1000) as i32 - 500;
             // Granted or refused, the ticket stays the table's.
             let _ = self.table.write(&ticket, article, OnHand::ADD, amount);
@@ -91,7 +93,7 @@ impl<H: History> Bench<H> {
     }
 
     // Fills the table by transactions of so many writes, and answers how many bytes their messages have.
-    pub(crate) fn commit_all(&mut self, writes: usize) -> Result<u64, AllocError>
+    pub(crate) fn commit_all(&mut self, writes: usize) -> Result<usize, AllocError>
         requires { 0 < writes }
     {
         self.bag.clear();
@@ -102,9 +104,9 @@ impl<H: History> Bench<H> {
     }
 
     // Offers every article to the receiver, and answers how many bytes the offers have.
-    pub(crate) fn offer_all(&mut self) -> Result<u64, AllocError> {
+    pub(crate) fn offer_all(&mut self) -> Result<usize, AllocError> {
         self.bag.clear();
-        for article in 0..ARTICLES {
+        for article in ARTICLES {
             let offered = self.table.offer(RECEIVER, article, &mut self.buffer);
             self.bag.add(&self.buffer[..offered.unwrap_or(0)])?;
         }
@@ -112,11 +114,22 @@ impl<H: History> Bench<H> {
     }
 
     // Takes every message, and answers how many actions were new.
-    pub(crate) fn take_all(&mut self) -> u64 {
-        let mut sum: u64 = 0;
+    fn take_all(&mut self) -> usize {
+        let mut sum: usize = 0;
         for message in self.bag.messages() {
-            sum = sum.wrapping_add(self.table.take(message).unwrap_or(0) as u64);
+            sum = sum.wrapping_add(self.table.take(message).unwrap_or(0));
         }
         sum
+    }
+
+    // Does what a round does, and answers what its calls answered.
+    pub(crate) fn work(&mut self, work: Work) -> Result<usize, AllocError> {
+        match work {
+            Work::Nothing => Ok(0),
+            Work::Commit1 => self.commit_all(1),
+            Work::Commit16 => self.commit_all(16),
+            Work::Offer => self.offer_all(),
+            Work::Take => Ok(self.take_all()),
+        }
     }
 }

@@ -7,32 +7,44 @@ pub enum Keeping {
     Strip,
 }
 
-// Which messages are taken: those of transactions of one write, or offers.
+// What there is before the first round.
 #[derive(Clone, Copy)]
-pub enum Messages {
+pub enum Start {
+    // An empty table.
+    Empty,
+    // A full table, filled by transactions of one write.
+    Full,
+    // An empty table, and the messages of a full one: those of its transactions, or its offers.
     Transactions,
     Offers,
 }
 
-// Which table takes them: a new one in each round, or one that has it all after the first.
+// Which table a round works on: a new one, or that of the round before.
 #[derive(Clone, Copy)]
-pub enum Taker {
+pub enum Basis {
     New,
     Same,
 }
 
-// What a round does.
+// What a round does with its table.
 #[derive(Clone, Copy)]
-pub enum Call {
-    // Makes a table, and nothing else.
-    New,
-    // Fills a new table by transactions of one write, or of sixteen.
+pub enum Work {
+    Nothing,
+    // Fills it by transactions of one write, or of sixteen.
     Commit1,
     Commit16,
-    // Offers every article of a full table.
+    // Offers every article.
     Offer,
-    // Takes all that a full table has.
-    Take(Messages, Taker),
+    // Takes every message.
+    Take,
+}
+
+// A call, as what it is made of.
+#[derive(Clone, Copy)]
+pub struct Call {
+    pub start: Start,
+    pub basis: Basis,
+    pub work: Work,
 }
 
 #[derive(Clone, Copy)]
@@ -69,17 +81,18 @@ impl FromStr for Call {
     type Err = NoJob;
 
     fn from_str(word: &str) -> Result<Call, NoJob> {
-        match word {
-            "new" => Ok(Call::New),
-            "commit-1" => Ok(Call::Commit1),
-            "commit-16" => Ok(Call::Commit16),
-            "offer" => Ok(Call::Offer),
-            "take-1" => Ok(Call::Take(Messages::Transactions, Taker::New)),
-            "take-many" => Ok(Call::Take(Messages::Offers, Taker::New)),
-            "again-1" => Ok(Call::Take(Messages::Transactions, Taker::Same)),
-            "again-many" => Ok(Call::Take(Messages::Offers, Taker::Same)),
-            _ => Err(NoJob),
-        }
+        let (start, basis, work) = match word {
+            "new" => (Start::Empty, Basis::New, Work::Nothing),
+            "commit-1" => (Start::Empty, Basis::New, Work::Commit1),
+            "commit-16" => (Start::Empty, Basis::New, Work::Commit16),
+            "offer" => (Start::Full, Basis::Same, Work::Offer),
+            "take-1" => (Start::Transactions, Basis::New, Work::Take),
+            "take-many" => (Start::Offers, Basis::New, Work::Take),
+            "again-1" => (Start::Transactions, Basis::Same, Work::Take),
+            "again-many" => (Start::Offers, Basis::Same, Work::Take),
+            _ => return Err(NoJob),
+        };
+        Ok(Call { start, basis, work })
     }
 }
 
@@ -101,12 +114,5 @@ impl FromStr for Job {
             None => Ok(job),
             Some(_) => Err(NoJob),
         }
-    }
-}
-
-impl Call {
-    // Does each round begin with a new table?
-    pub(crate) fn renews(self) -> bool {
-        !matches!(self, Call::Offer | Call::Take(_, Taker::Same))
     }
 }

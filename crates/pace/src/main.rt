@@ -9,24 +9,14 @@ mod histories;
 mod jobs;
 mod rounds;
 
-use history::{Rack, Strip};
-use jobs::{Job, Keeping, NoJob};
-use rounds::{Report, run};
-use std::alloc::{AllocError, Global};
+use jobs::{Job, NoJob};
 use std::io;
-
-fn answer(heap: Global, job: &Job) -> Result<Report, AllocError> {
-    match job.keeping {
-        Keeping::Rack => run::<Rack>(heap, job),
-        Keeping::Strip => run::<Strip>(heap, job),
-    }
-}
 
 fn main(rt: HostRuntime) -> io::Result<()> {
     for line in rt.lines(rt.alloc()) {
         match line?.as_str().parse::<Job>() {
             Ok(job) => {
-                let report = answer(rt.alloc(), &job)?;
+                let report = job.answer(rt.alloc())?;
                 println!(rt; "{report}")?;
             }
             Err(NoJob) => println!(rt; "?")?,

@@ -1,13 +1,13 @@
-use crate::benches::Bench;
+use crate::benches::{ARTICLES, Bench};
 use crate::histories::Made;
-use crate::jobs::{Call, Job, Messages};
-use history::History;
+use crate::jobs::{Basis, Job, Keeping, Start};
+use history::{History, Rack, Strip};
 use std::alloc::{AllocError, Global};
 use std::fmt;
 
 #[derive(Drop)]
 pub struct Report {
-    answers: u64,
+    answers: usize,
     bytes: u32,
     figures: [i64; 4],
 }
@@ -23,48 +23,50 @@ impl fmt::Display for Report {
     }
 }
 
-// What has to be there before the first round: a full table to offer, or messages to take.
-fn prepared<H: History + Made + Drop>(heap: Global, job: &Job) -> Result<Bench<H>, AllocError> {
-    let mut bench: Bench<H> = Bench::new(heap, job.places)?;
-    match job.call {
-        Call::New | Call::Commit1 | Call::Commit16 => {}
-        Call::Offer => {
-            bench.commit_all(1)?;
+impl Job {
+    // Does the job on a table of the history that its line names.
+    pub(crate) fn answer(&self, heap: Global) -> Result<Report, AllocError> {
+        match self.keeping {
+            Keeping::Rack => self.run::<Rack>(heap),
+            Keeping::Strip => self.run::<Strip>(heap),
         }
-        Call::Take(messages, _) => {
-            bench.commit_all(1)?;
-            if let Messages::Offers = messages {
-                bench.offer_all()?;
+    }
+
+    // Does the work once, and then as often as there are rounds.
+    fn run<H: History + Made + Drop>(&self, heap: Global) -> Result<Report, AllocError> {
+        let mut bench: Bench<H> = self.prepared(heap)?;
+        let mut answers = bench.work(self.call.work)?;
+        for _ in 0..self.rounds {
+            if let Basis::New = self.call.basis {
+                bench.renew()?;
             }
-            bench.hand_over()?;
+            answers = answers.wrapping_add(bench.work(self.call.work)?);
         }
+        Ok(Report {
+            answers,
+            bytes: bench.bag.sum(),
+            figures: ARTICLES.map(|article| bench.table.figure(article).unwrap_or(0)),
+        })
     }
-    Ok(bench)
-}
 
-fn work<H: History>(bench: &mut Bench<H>, call: Call) -> Result<u64, AllocError> {
-    match call {
-        Call::New => Ok(0),
-        Call::Commit1 => bench.commit_all(1),
-        Call::Commit16 => bench.commit_all(16),
-        Call::Offer => bench.offer_all(),
-        Call::Take(..) => Ok(bench.take_all()),
-    }
-}
-
-// Does the work once, and then as often as there are rounds.
-pub(crate) fn run<H: History + Made + Drop>(heap: Global, job: &Job) -> Result<Report, AllocError> {
-    let mut bench: Bench<H> = prepared(heap, job)?;
-    let mut answers = work(&mut bench, job.call)?;
-    for _ in 0..job.rounds {
-        if job.call.renews() {
-            bench.renew()?;
+    // The table and the messages that there are before the first round.
+    fn prepared<H: History + Made + Drop>(&self, heap: Global) -> Result<Bench<H>, AllocError> {
+        let mut bench: Bench<H> = Bench::new(heap, self.places)?;
+        match self.call.start {
+            Start::Empty => {}
+            Start::Full => {
+                bench.commit_all(1)?;
+            }
+            Start::Transactions => {
+                bench.commit_all(1)?;
+                bench.hand_over()?;
+            }
+            Start::Offers => {
+                bench.commit_all(1)?;
+                bench.offer_all()?;
+                bench.hand_over()?;
+            }
         }
-        answers = answers.wrapping_add(work(&mut bench, job.call)?);
+        Ok(bench)
     }
-    Ok(Report {
-        answers,
-        bytes: bench.bag.sum(),
-        figures: [0, 1, 2, 3].map(|article| bench.table.figure(article).unwrap_or(0)),
-    })
 }

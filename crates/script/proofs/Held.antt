@@ -1,14 +1,15 @@
 -- What goes into a slot.
-use Rattle.std.proofs.Common.{◌≡◌, ℕ, zero, suc, ◌+◌, ◌<◌, List, [], ◌∷◌, length, get_or, take, drop, replicate, ℤ, Some, None, Ok, sym, refl, ap, ◌∙◌, arith}
+use Rattle.std.proofs.Common.{◌≡◌, ℕ, zero, suc, ◌+◌, ◌<◌, List, [], ◌∷◌, length, get_or, take, drop, replicate, ℤ, Some, None, Ok, Err, Result, MatchResult, IsOkAnd, subst, sym, refl, ap, ◌∙◌, arith}
 use Rattle.std.proofs.lemmas.List.{take_at}
 use Rattle.action.specs.declared.refusals.Refusal.{Refusal}
 use Rattle.kind.specs.Meanings.{on_hand}
 use Rattle.message.specs.Buffer.{overwritten}
 use Rattle.table.specs.Offers.{offer_bytes, offer_refusal}
+use Rattle.table.specs.declared.faults.TableFault.{TableFault}
 use Rattle.table.specs.declared.tickets.Ticket.{Ticket}
 use Rattle.table.specs.Transactions.{Committed, Opened, Wrote, abandoned, commit_refusal, committed, fitting, new_action, next_time, opened, transaction_bytes, write_refusal, written}
 use Rattle.table.specs.View.{View}
-use Rattle.script.specs.declared.answers.Answer.TheVariants.{Number}
+use Rattle.script.specs.declared.answers.Answer.TheVariants.{Time, Length}
 use Rattle.script.specs.Acts.{Outcome, decided, moved_opened, moved_written, moved, offered, refused_at}
 use Rattle.script.specs.Slots.{blank}
 
@@ -28,19 +29,26 @@ all_empty (slot ∷ slots) zero long empty = absurd (omega (arith, long))
 all_empty (slot ∷ slots) (suc n) long empty = λ i. empty 0 slot (omega arith) i ∷ all_empty slots n (omega (arith, long)) (λ k none h. empty (suc k) none (omega arith)) i
 
 -- the offer is granted, or refused
-pub offer_granted : (v : View) (p a : ℕ) (slot : List ℕ) → offer_refusal on_hand v p a blank ≡ None → record { table = v; slot = offer_bytes on_hand v p a; answer = Ok (Number (length (offer_bytes on_hand v p a))) } ≡ offered v p a slot
-offer_granted v p a slot e = sym (ap (λ o. decided o (refused_at v slot) (record { table = v; slot = offer_bytes on_hand v p a; answer = Ok (Number (length (offer_bytes on_hand v p a))) })) e)
+pub offer_granted : (v : View) (p a : ℕ) (slot : List ℕ) → offer_refusal on_hand v p a blank ≡ None → record { table = v; slot = offer_bytes on_hand v p a; answer = Ok (Length (length (offer_bytes on_hand v p a))) } ≡ offered v p a slot
+offer_granted v p a slot e = sym (ap (λ o. decided o (refused_at v slot) (record { table = v; slot = offer_bytes on_hand v p a; answer = Ok (Length (length (offer_bytes on_hand v p a))) })) e)
 
 pub offer_refused : (v : View) (p a : ℕ) (slot : List ℕ) (r : Refusal) → offer_refusal on_hand v p a blank ≡ Some r → refused_at v slot r ≡ offered v p a slot
-offer_refused v p a slot r e = sym (ap (λ o. decided o (refused_at v slot) (record { table = v; slot = offer_bytes on_hand v p a; answer = Ok (Number (length (offer_bytes on_hand v p a))) })) e)
+offer_refused v p a slot r e = sym (ap (λ o. decided o (refused_at v slot) (record { table = v; slot = offer_bytes on_hand v p a; answer = Ok (Length (length (offer_bytes on_hand v p a))) })) e)
+
+-- a commit that answered k and n went through, where its answer is handed on as the write's time and n
+pub committed_as : (r posted : Result (ℕ × ℕ) (TableFault × Ticket)) (post : ℕ × ℕ → ℕ × ℕ → Type 0) (time : ℕ) (done : ℕ × ℕ) → ((x y : ℕ × ℕ) → post x y → y ≡ (time, x.1)) → MatchResult r (λ x. IsOkAnd posted (post x)) (λ e. posted ≡ Err e) → posted ≡ Ok done → (k : ℕ) × (r ≡ Ok (k, done.1)) × (done.0 ≡ time)
+committed_as (Ok x) posted post time done told mapped is =
+    let at : done ≡ (time, x.1) = told x done (subst (λ p. IsOkAnd p (post x)) is mapped) in
+    (x.0, (λ i. Ok (x.0, (sym at i).1)), λ i. (at i).0)
+committed_as (Err e) posted post time done told mapped is = cc
 
 -- a transaction of one write went through
-pub move_granted : (v w u after : View) (t : Ticket) (article : ℕ) (amount : ℤ) (time k n : ℕ) (slot end : List ℕ) → Opened on_hand v (Ok t) w → Wrote on_hand w t article 1 amount (Ok time) u → Committed on_hand u t blank (Ok (k, n)) after end → record { table = after; slot = take n end; answer = Ok (Number time) } ≡ moved v article amount slot
+pub move_granted : (v w u after : View) (t : Ticket) (article : ℕ) (amount : ℤ) (time k n : ℕ) (slot end : List ℕ) → Opened on_hand v (Ok t) w → Wrote on_hand w t article 1 amount (Ok time) u → Committed on_hand u t blank (Ok (k, n)) after end → record { table = after; slot = take n end; answer = Ok (Time time) } ≡ moved v article amount slot
 move_granted v w u after t article amount time k n slot end first second third =
     let message = fitting (transaction_bytes on_hand u) blank in
-    let done : Outcome = record { table = committed on_hand u; slot = message; answer = Ok (Number time) } in
-    let left : record { table = after; slot = take n end; answer = Ok (Number time) } ≡ done =
-    (λ i. record { table = third.3 i; slot = (ap (take n) third.4 ∙ held_written blank message n third.2) i; answer = Ok (Number time) })
+    let done : Outcome = record { table = committed on_hand u; slot = message; answer = Ok (Time time) } in
+    let left : record { table = after; slot = take n end; answer = Ok (Time time) } ≡ done =
+    (λ i. record { table = third.3 i; slot = (ap (take n) third.4 ∙ held_written blank message n third.2) i; answer = Ok (Time time) })
     in
     let committing : moved_written v u time slot ≡ done = ap (λ o. decided o (refused_at (abandoned u) slot) done) (ap (commit_refusal on_hand u) (sym first.1) ∙ third.0) in
     let writing : moved_opened v w article amount slot ≡ moved_written v u time slot =

@@ -1,5 +1,5 @@
 -- What each command does at one site, in terms of the table's calls. Assumes nothing.
-use Rattle.std.specs.Prelude.{◌≡◌, ℕ, cond, List, length, ℤ, Some, None, Ok, Err, Option, Result}
+use Rattle.std.specs.Prelude.{◌≡◌, ℕ, List, length, ℤ, Some, None, Ok, Err, Option, Result}
 use Rattle.action.specs.declared.refusals.Refusal.{Refusal}
 use Rattle.kind.specs.Meanings.{on_hand}
 use Rattle.table.specs.Answers.{figure, figure_refusal, open_item, open_item_refusal}
@@ -7,7 +7,7 @@ use Rattle.table.specs.Offers.{offer_bytes, offer_refusal}
 use Rattle.table.specs.Transactions.{abandoned, commit_refusal, committed, fitting, new_action, next_time, open_refusal, opened, ticket, transaction_bytes, write_refusal, written}
 use Rattle.table.specs.View.{View}
 use Rattle.script.specs.declared.answers.Answer.{Answer}
-use Rattle.script.specs.declared.answers.Answer.TheVariants.{Number, Figure}
+use Rattle.script.specs.declared.answers.Answer.TheVariants.{Time, Length, Figure, IsOpen}
 use Rattle.script.specs.declared.faults.LineFault.{LineFault}
 use Rattle.script.specs.Faults.{number_of}
 use Rattle.script.specs.Slots.{blank}
@@ -37,7 +37,7 @@ refused_at v slot r = record { table = v; slot = slot; answer = refuse r }
 -- M, with the write done: commit into the slot, or abandon
 abbrev pub moved_written : View → View → ℕ → List ℕ → Outcome
 moved_written v w time slot =
-    decided (commit_refusal on_hand w (ticket on_hand v)) (refused_at (abandoned w) slot) (record { table = committed on_hand w; slot = fitting (transaction_bytes on_hand w) blank; answer = Ok (Number time) })
+    decided (commit_refusal on_hand w (ticket on_hand v)) (refused_at (abandoned w) slot) (record { table = committed on_hand w; slot = fitting (transaction_bytes on_hand w) blank; answer = Ok (Time time) })
 
 -- M, with the transaction open: write with operation 1, or abandon
 abbrev pub moved_opened : View → View → ℕ → ℤ → List ℕ → Outcome
@@ -51,15 +51,15 @@ moved v article amount slot = decided (open_refusal v) (refused_at v slot) (move
 -- O: the offer goes into the slot, and its length is answered
 abbrev pub offered : View → ℕ → ℕ → List ℕ → Outcome
 offered v peer article slot =
-    decided (offer_refusal on_hand v peer article blank) (refused_at v slot) (record { table = v; slot = offer_bytes on_hand v peer article; answer = Ok (Number (length (offer_bytes on_hand v peer article))) })
+    decided (offer_refusal on_hand v peer article blank) (refused_at v slot) (record { table = v; slot = offer_bytes on_hand v peer article; answer = Ok (Length (length (offer_bytes on_hand v peer article))) })
 
 -- F
 abbrev pub figured : View → ℕ → Reply
 figured v article = decided (figure_refusal v article) refuse (Ok (Figure (figure v article)))
 
--- P: 1 where the site shows an open item
+-- P: does the site show an open item?
 abbrev pub flagged : View → ℕ → ℕ → Reply
-flagged v peer article = decided (open_item_refusal v article peer) refuse (Ok (Number (cond (open_item v article peer) 1 0)))
+flagged v peer article = decided (open_item_refusal v article peer) refuse (Ok (IsOpen (open_item v article peer)))
 
 -- the reply that a command's result stands for
 abbrev pub answered : Result Answer LineFault → Reply

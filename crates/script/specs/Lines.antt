@@ -84,12 +84,12 @@ site_of (Offer site peer article slot) = site
 site_of (Figure site article) = site
 site_of (OpenItem site peer article) = site
 
--- a command's slot is one of the ten
+-- a command's site is one of the three, and its slot one of the ten
 abbrev pub Placed : Command → Type 0
-Placed (Move site article amount slot) = slot < 10
-Placed (Offer site peer article slot) = slot < 10
-Placed (Figure site article) = Unit {0}
-Placed (OpenItem site peer article) = Unit {0}
+Placed (Move site article amount slot) = (site < 3) × (slot < 10)
+Placed (Offer site peer article slot) = (site < 3) × (slot < 10)
+Placed (Figure site article) = site < 3
+Placed (OpenItem site peer article) = site < 3
 
 -- what reading one field answers
 

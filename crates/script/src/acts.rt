@@ -1,31 +1,17 @@
 // What each command does at one site.
-ghost use Rattle.std.specs.Prelude.{◌≡◌, true};
-ghost use Rattle.kind.specs.Meanings.{on_hand};
-ghost use Rattle.table.specs.Transactions.{abandoned, holds};
 ghost use Rattle.script.specs.Acts.{Moved, Offered};
 
 use crate::answers::Answer;
+use crate::desks::Shelf;
 use crate::faults::LineFault;
 use crate::slots::{SLOT_BYTES, Slot};
-use history::History;
 use kind::OnHand;
-use table::{Table, TableFault, Ticket};
+use table::Table;
 
-// Abandons the open transaction, and hands on why. That is not refused, since the ticket is the
-// table's own.
-fn give_up<H: History>(table: &mut Table<OnHand, H>, ticket: Ticket, fault: TableFault) -> LineFault
-    requires { holds on_hand table.old ticket ≡ true }
-    ensures table { table.new ≡ abandoned table.old }
-    ensures fault { result ≡ LineFault.Table fault }
-{
-    table.abandon(ticket).unwrap();
-    LineFault::Table(fault)
-}
-
-// A transaction of one write, whose message goes into the slot. It is abandoned where its write or
-// its commit is refused.
-pub(crate) fn move_stock<H: History>(
-    table: &mut Table<OnHand, H>,
+// A transaction of one write, whose message goes into the slot.
+// Like `post` of `two_sites`: a table has seven calls, none of which posts in one go, and an example stands alone.
+pub(crate) fn move_stock(
+    table: &mut Table<OnHand, Shelf>,
     article: u8,
     amount: i32,
     slot: &mut Slot,
@@ -33,23 +19,30 @@ pub(crate) fn move_stock<H: History>(
     ensures { Moved table.old article amount slot.old result table.new slot.new }
 {
     let ticket = table.open()?;
-    let time = match table.write(&ticket, article, OnHand::ADD, amount) {
-        Ok(time) => time,
-        Err(fault) => return Err(give_up(table, ticket, fault)),
-    };
     let mut buffer = [0; SLOT_BYTES];
-    match table.commit(ticket, &mut buffer) {
-        Ok((_, length)) => {
+    // What is refused hands the ticket back.
+    let posted = match table.write(&ticket, article, OnHand::ADD, amount) {
+        Ok(time) => table
+            .commit(ticket, &mut buffer)
+            .map(|(_, length)| (time, length)),
+        Err(fault) => Err((fault, ticket)),
+    };
+    match posted {
+        Ok((time, length)) => {
             slot.keep(&buffer[..length]);
-            Ok(Answer::Number(u64::from(time)))
+            Ok(Answer::Time(time))
         }
-        Err((fault, ticket)) => Err(give_up(table, ticket, fault)),
+        // A ticket cannot be let go. It is the table's own, so abandoning is proved not to be refused.
+        Err((fault, ticket)) => {
+            table.abandon(ticket).unwrap();
+            Err(fault.into())
+        }
     }
 }
 
 // Offers the article to the peer, into the slot.
-pub(crate) fn offer_article<H: History>(
-    table: &Table<OnHand, H>,
+pub(crate) fn offer_article(
+    table: &Table<OnHand, Shelf>,
     peer: u8,
     article: u8,
     slot: &mut Slot,
@@ -59,5 +52,5 @@ pub(crate) fn offer_article<H: History>(
     let mut buffer = [0; SLOT_BYTES];
     let length = table.offer(peer, article, &mut buffer)?;
     slot.keep(&buffer[..length]);
-    Ok(Answer::Number(length as u64))
+    Ok(Answer::Length(length))
 }

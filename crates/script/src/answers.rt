@@ -1,6 +1,11 @@
-// What a command answers where it is not refused: a time, a length or a flag, or a figure.
+// What a command answers where it is not refused.
 #[derive(Clone, Copy, Debug, PartialEq, Eq)]
 pub enum Answer {
-    Number(u64),
+    // The time of a write.
+    Time(u32),
+    // How long an offer is.
+    Length(usize),
     Figure(i64),
+    // Is there an open item?
+    IsOpen(bool),
 }

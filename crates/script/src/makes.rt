@@ -1,8 +1,10 @@
-ghost use Rattle.std.specs.Prelude.{◌≡◌, ◌<◌, IfOk};
+ghost use Rattle.std.specs.Prelude.{◌≡◌, ◌<◌, [], replicate, IfOk};
 ghost use Rattle.script.specs.Desk.{FreshDesk};
 
 use crate::desks::Desk;
+use crate::slots::Slot;
 use action::Setup;
+use either::Either;
 use history::{Rack, Strip};
 use std::alloc::{AllocError, Global};
 use table::Table;
@@ -21,19 +23,28 @@ fn setup(site: u32) -> Setup
     Setup::new(1, 3, site, 4).unwrap()
 }
 
+// Slots that hold nothing.
+fn empty_slots() -> [Slot; 10]
+    ensures { result ≡ replicate 10 [] }
+{
+    Default::default()
+}
+
 impl Desk {
     // A desk of three sites on which nothing has moved yet, and ten empty slots.
     pub fn new(heap: Global) -> Result<Desk, AllocError>
         ensures { IfOk result (λ desk. FreshDesk desk) }
     {
-        let first = Rack::new(heap, PLACES)?;
-        let second = Rack::new(heap, PLACES)?;
-        let third = Strip::new(vec![in heap; 0; STRIP_BYTES]?);
+        let first = Either::Left(Rack::new(heap, PLACES)?);
+        let second = Either::Left(Rack::new(heap, PLACES)?);
+        let third = Either::Right(Strip::new(vec![in heap; 0; STRIP_BYTES]?));
         Ok(Desk {
-            first: Table::new(setup(0), first),
-            second: Table::new(setup(1), second),
-            third: Table::new(setup(2), third),
-            slots: Default::default(),
+            tables: [
+                Table::new(setup(0), first),
+                Table::new(setup(1), second),
+                Table::new(setup(2), third),
+            ],
+            slots: empty_slots(),
         })
     }
 }

@@ -6,7 +6,7 @@ use crate::commands::Command;
 // How many sites can act: those of the desk.
 const SITES: u8 = 3;
 
-// The value of a decimal digit that is below a bound.
+// The value of a decimal digit that is below a bound. `to_digit` would answer 32 bits, to be narrowed again.
 fn digit_below(bound: u8, byte: u8) -> Option<u8>
     ensures { DigitBelow bound byte result }
 {
@@ -15,21 +15,21 @@ fn digit_below(bound: u8, byte: u8) -> Option<u8>
 }
 
 // The number that three digits write.
-fn three_digits(high: u8, middle: u8, low: u8) -> Option<u32>
+fn three_digits(high: u8, middle: u8, low: u8) -> Option<u16>
     ensures { Hundreds high middle low result }
 {
     let hundreds = digit_below(10, high)?;
     let tens = digit_below(10, middle)?;
     let ones = digit_below(10, low)?;
-    Some(100 * u32::from(hundreds) + 10 * u32::from(tens) + u32::from(ones))
+    Some(100 * u16::from(hundreds) + 10 * u16::from(tens) + u16::from(ones))
 }
 
-// So many thousands and ones under their sign.
-fn amount(sign: u8, thousands: u32, ones: u32) -> Option<i32>
+// So many thousands and ones under their sign. `str::parse` is not used, since it needs no sign.
+fn amount(sign: u8, thousands: u16, ones: u16) -> Option<i32>
     requires { (thousands < 1000) × (ones < 1000) }
     ensures { Sign sign (1000 * thousands + ones) result }
 {
-    let number = (1000 * thousands + ones) as i32;
+    let number = 1000 * i32::from(thousands) + i32::from(ones);
     match sign {
         b'+' => Some(number),
         b'-' => Some(-number),

@@ -12,8 +12,10 @@ pub(crate) fn print(letter: char, outcome: Result<Answer, LineFault>) -> SheetLi
     ensures { sheet_bytes result ≡ printed letter (answered outcome) }
 {
     match outcome {
-        Ok(Answer::Number(number)) => SheetLine::new(letter, " ", number),
+        Ok(Answer::Time(time)) => SheetLine::new(letter, " ", time),
+        Ok(Answer::Length(length)) => SheetLine::new(letter, " ", length),
         Ok(Answer::Figure(figure)) => SheetLine::new(letter, " ", figure),
+        Ok(Answer::IsOpen(is_open)) => SheetLine::new(letter, " ", u8::from(is_open)),
         Err(fault) => SheetLine::new(letter, " refused ", fault.number()),
     }
 }

@@ -6,19 +6,18 @@ ghost use Rattle.script.specs.Sheets.{sheet_bytes};
 use crate::acts::{move_stock, offer_article};
 use crate::answers::Answer;
 use crate::commands::Command;
-use crate::desks::Desk;
+use crate::desks::{Desk, Shelf};
 use crate::faults::LineFault;
 use crate::parses::parse;
 use crate::prints::print;
 use crate::sheets::SheetLine;
 use crate::slots::Slot;
-use history::History;
 use kind::OnHand;
 use table::Table;
 
 // Does what the command asks, at the table of its site.
-fn act_at<H: History>(
-    table: &mut Table<OnHand, H>,
+fn act_at(
+    table: &mut Table<OnHand, Shelf>,
     slots: &mut [Slot; 10],
     command: Command,
 ) -> Result<Answer, LineFault>
@@ -40,24 +39,18 @@ fn act_at<H: History>(
         } => offer_article(table, peer, article, &mut slots[usize::from(slot)]),
         Command::Figure { article, .. } => Ok(Answer::Figure(table.figure(article)?)),
         Command::OpenItem { peer, article, .. } => {
-            let is_open = table.open_item(article, peer)?;
-            Ok(Answer::Number(u64::from(is_open)))
+            Ok(Answer::IsOpen(table.open_item(article, peer)?))
         }
     }
 }
 
 impl Desk {
-    #[tactic(auto, using(crate::proofs::Turns::acted_by))]
     fn act(&mut self, command: Command) -> Result<Answer, LineFault>
         requires { Placed command }
         ensures { Acted self.old command result self.new }
     {
-        let slots = &mut self.slots;
-        match command.site() {
-            0 => act_at(&mut self.first, slots, command),
-            1 => act_at(&mut self.second, slots, command),
-            _ => act_at(&mut self.third, slots, command),
-        }
+        let table = &mut self.tables[usize::from(command.site())];
+        act_at(table, &mut self.slots, command)
     }
 
     // Runs one line, without the byte that ends it, and answers what is printed for it.

@@ -11,6 +11,7 @@ use std::io;
 use table::{Table, TableFault};
 
 // Posts a movement on article 0, and answers how many bytes of the buffer its message takes.
+// Like `move_stock` of `script`: a table has seven calls, none of which posts in one go, and an example stands alone.
 fn post<H: History>(
     table: &mut Table<OnHand, H>,
     amount: i32,

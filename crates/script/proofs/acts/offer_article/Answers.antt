@@ -2,14 +2,14 @@ use Rattle.std.proofs.Common.{take, Ok, Err, sym, ap, ◌∙◌}
 use Rattle.std.proofs.lemmas.Result.{err_from_is_err_and}
 use Rattle.kind.specs.Meanings.{on_hand}
 use Rattle.table.specs.Offers.{offer_bytes, offer_refusal}
-use Rattle.script.specs.declared.answers.Answer.TheVariants.{Number}
+use Rattle.script.specs.declared.answers.Answer.TheVariants.{Length}
 use Rattle.script.specs.Acts.{answered}
 use Rattle.script.specs.Faults.{number_of}
 use Rattle.script.proofs.Held.{blank_is, held_written, offer_granted, offer_refused}
 use Rattle.script.proofs.acts.offer_article.Goals as goal
 
 pub returns-in_err-length : goal.returns-in_err-length
-returns-in_err-length g c =
+returns-in_err-length c =
     let v = c.args.table.now in
     let slot = c.args.slot.now in
     let fault = err_from_is_err_and c.from_residual.result c.from_residual.ensures.1 in
@@ -17,9 +17,9 @@ returns-in_err-length g c =
     (λ i. record { table = v; slot = slot; answer = (ap answered fault.1 ∙ ap (λ e. Err (number_of e)) fault.2) i }) ∙ offer_refused v c.args.peer c.args.article slot _ (ap (offer_refusal on_hand v c.args.peer c.args.article) (sym blank_is) ∙ told.0)
 
 pub returns : goal.returns
-returns g c =
+returns c =
     let v = c.args.table.now in
     let told = c.in_ok-length.ensures.does in
     let n = c.in_ok-length.length in
     let bytes = offer_bytes on_hand v c.args.peer c.args.article in
-    (λ i. record { table = v; slot = (c.keep.ensures ∙ ap (take n) told.2 ∙ held_written _ bytes n told.1) i; answer = Ok (Number (told.1 i)) }) ∙ offer_granted v c.args.peer c.args.article c.args.slot.now (ap (offer_refusal on_hand v c.args.peer c.args.article) (sym blank_is) ∙ told.0)
+    (λ i. record { table = v; slot = (c.keep.ensures ∙ ap (take n) told.2 ∙ held_written _ bytes n told.1) i; answer = Ok (Length (told.1 i)) }) ∙ offer_granted v c.args.peer c.args.article c.args.slot.now (ap (offer_refusal on_hand v c.args.peer c.args.article) (sym blank_is) ∙ told.0)

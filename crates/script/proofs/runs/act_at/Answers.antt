@@ -7,7 +7,7 @@ use Rattle.script.proofs.Turns.{settled_in}
 use Rattle.script.proofs.runs.act_at.Goals as goal
 
 pub returns-in-Move : goal.returns-in-Move
-returns-in-Move g c =
+returns-in-Move c =
     let v = c.args.table.now in
     let slots = c.args.slots.now in
     let m = c.in-Move in
@@ -17,7 +17,7 @@ returns-in-Move g c =
     settled_in slots m.slot c.from.result none c.move_stock.new.slot (moved v m.article m.amount) _ (answered c.move_stock.result) c.from.ensures (omega (arith, placed)) (c.move_stock.ensures ∙ ap (λ z. moved v m.article z (get_or slots c.from.result none)) (to_z-of_z w32 m.amount fits)) ∙ ap (acted_at v slots) (sym m.is)
 
 pub returns-in-Offer : goal.returns-in-Offer
-returns-in-Offer g c =
+returns-in-Offer c =
     let v = c.args.table.now in
     let slots = c.args.slots.now in
     let m = c.in-Offer in
