@@ -9,6 +9,7 @@ use std::alloc::{AllocError, Global};
 #[derive(Drop)]
 pub struct Rack {
     actions: Vec<Action>,
+    // How many were asked for; the memory may have room for more.
     places: usize,
     ghost within: { length actions.items ≤ places },
     ghost held: { places ≤ vec_capacity actions },
