@@ -15,7 +15,8 @@ pub struct Action {
 }
 
 impl Action {
-    // Actions are ordered by time, then coordinator, then article.
+    // Actions are ordered by time, then coordinator, then article. No `Ord`, since `==` compares the other
+    // fields too.
     pub fn precedes(&self, other: &Action) -> bool
         ensures { result ≡ precedes self.now other.now }
     {

@@ -30,7 +30,7 @@ impl From<ReaderFault> for CallFault {
 }
 
 impl CallFault {
-    // The call answers minus this number.
+    // The call answers minus this number: all that C gets of a refusal, so there is no `From` for `Refusal`.
     pub(crate) fn number(self) -> u8
         ensures { result ≡ number self }
     {

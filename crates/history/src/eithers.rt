@@ -3,10 +3,15 @@ ghost use Rattle.either.specs.declared.Either.TheVariants.{Left, Right};
 
 use crate::faults::HistoryFault;
 use crate::interface::History;
+use crate::racks::Rack;
+use crate::strips::Strip;
 use action::Action;
 use either::{Either, for_both};
 
-// A history of one of two ways to keep it, chosen when it is made.
+// A rack or a strip, as is chosen when it is made.
+pub type Shelf = Either<Rack, Strip>;
+
+// A history of one of two ways to keep it.
 impl<L: History, R: History> History for Either<L, R> {
     ghost items = { either L.items R.items };
 

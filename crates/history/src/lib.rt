@@ -9,9 +9,10 @@ mod racks;
 mod strips;
 mod walks;
 
+pub use eithers::Shelf;
 pub use faults::HistoryFault;
 pub use interface::History;
 pub use listing::actions;
 pub use racks::Rack;
-pub use strips::Strip;
+pub use strips::{PLACE_BYTES, Strip};
 pub use walks::Actions;

@@ -6,8 +6,8 @@ use crate::faults::{HistoryFault, check_insert, check_place};
 use crate::interface::History;
 use action::{Action, MOST_PLACES};
 
-// How many bytes a place takes: those of an action's record.
-const PLACE: usize = 16;
+// How many bytes of a strip a place takes: those of an action's record.
+pub const PLACE_BYTES: usize = 16;
 
 // A history that keeps bytes: in each used place the record of its action. Its memory comes from
 // whoever makes it and keeps its length, so no call allocates and the used places are counted beside
@@ -31,7 +31,7 @@ impl Strip {
         ensures empty { strip_items result.used result.bytes.items ≡ [] }
         ensures room { result.places ≡ min (vec_len memory / 16) 1024 }
     {
-        let places = (memory.len() / PLACE).min(MOST_PLACES);
+        let places = (memory.len() / PLACE_BYTES).min(MOST_PLACES);
         Strip {
             bytes: memory,
             places,
@@ -44,9 +44,9 @@ impl Strip {
         requires { i < self.now.used }
         ensures { result ≡ slice_index_or (strip_items self.now.used self.now.bytes.items) i result }
     {
-        let start = i * PLACE;
-        let mut record = [0; PLACE];
-        record.copy_from_slice(&self.bytes[start..start + PLACE]);
+        let start = i * PLACE_BYTES;
+        let mut record = [0; PLACE_BYTES];
+        record.copy_from_slice(&self.bytes[start..start + PLACE_BYTES]);
         Action::from_bytes(&record)
     }
 
@@ -57,9 +57,9 @@ impl Strip {
         ensures rest { drop (self.new.used * 16) self.new.bytes.items ≡ drop (self.new.used * 16) self.old.bytes.items }
         ensures fixed { self.new.places ≡ self.old.places }
     {
-        let start = i * PLACE;
-        let next = start + PLACE;
-        self.bytes.copy_within(start..self.used * PLACE, next);
+        let start = i * PLACE_BYTES;
+        let next = start + PLACE_BYTES;
+        self.bytes.copy_within(start..self.used * PLACE_BYTES, next);
         self.bytes[start..next].copy_from_slice(&action.to_bytes());
         self.used += 1;
     }
@@ -71,9 +71,9 @@ impl Strip {
         ensures rest { drop (self.new.used * 16) self.new.bytes.items ≡ drop (self.new.used * 16) self.old.bytes.items }
         ensures fixed { self.new.places ≡ self.old.places }
     {
-        let start = i * PLACE;
+        let start = i * PLACE_BYTES;
         self.bytes
-            .copy_within(start + PLACE..self.used * PLACE, start);
+            .copy_within(start + PLACE_BYTES..self.used * PLACE_BYTES, start);
         self.used -= 1;
     }
 }

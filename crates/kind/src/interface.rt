@@ -3,7 +3,8 @@ ghost use Rattle.std.specs.Int.{w64};
 ghost use Rattle.kind.specs.Meaning.{Meaning};
 
 // A kind of figure. A figure is a signed number of 64 bits. An action changes it by an operation, from
-// 0 to 255, and an amount, a signed number of 32 bits; each kind knows some of these pairs.
+// 0 to 255, and an amount, a signed number of 32 bits; each kind knows some of these pairs. The two stand
+// apart, as they do in an action, in a message and in the calls of a table.
 pub trait Kind {
     // How messages name the kind: a number and no enum, since anyone may add a kind.
     const KIND_NUMBER: u8;

@@ -15,7 +15,7 @@ fn is_action(read: &Record) -> bool
 }
 
 // Reads all the bytes as one message, and answers how many actions it carries. Each record may be
-// refused, so they are counted in a loop with `?`.
+// refused and the reader is no `Iterator`, so they are counted in a loop with `?`.
 fn scan<K: Kind>(setup: Setup, bytes: &[u8]) -> Result<usize, ReaderFault>
     ensures { Scanned K.means setup bytes.now result }
 {

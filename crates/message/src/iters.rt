@@ -1,10 +1,12 @@
-// A message's records, one after another, in the order of its bytes. For a message that has been checked.
+// A message's records, one after another, in the order of its bytes. For a message that has been checked;
+// of any other bytes, the records up to where none begins. They go by bytes and not by a type of checked
+// messages, which would ask more of who calls them.
 //
-// Each `next` is inlined, as is the decoding that it calls: a record that is handed on through memory is
-// written field by field and read back in wider words, for which the processor waits.
+// Each `next` is inlined, as is the decoding that it calls: a record handed on through memory is written
+// field by field and read back in wider words, and the processor has to wait for such a read.
 //
-// Intervals and actions are looked for by `while let`: after a `for` over `by_ref`, and after `find_map`,
-// nothing is known of the records that are left.
+// Intervals and actions are looked for by `while let`. After a `for` over `by_ref` nothing is known of the
+// records that are left; `find_map` says what was called on which, from which the proof did not close.
 ghost use Rattle.std.specs.Prelude.{◌≡◌, ◌≤◌, List, length, map};
 ghost use Rattle.std.specs.Iterator.{YieldsFirst, item_count};
 ghost use Rattle.std.specs.Iterator.Runs.{YieldsInOrder};

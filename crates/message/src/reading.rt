@@ -69,14 +69,7 @@ impl Progress {
             next_article: 0,
             next_site: 0,
             spans: [Span::default(); 8],
-            last: Action {
-                coordinator: 0,
-                time: 0,
-                transaction: 0,
-                article: 0,
-                operation: 0,
-                amount: 0,
-            },
+            last: Action::default(),
         }
     }
 }

@@ -25,8 +25,8 @@ impl<'a> Reader<'a> {
         }
     }
 
-    // The next record with its offset, or `None` at the end of a whole message. The kind is named at
-    // the call, so this is no `Iterator`.
+    // The next record with its offset, or `None` at the end of a whole message. No `Iterator`: at a fault the
+    // reader stays and answers that fault again, so what it would yield has no end.
     pub fn next<K: Kind>(&mut self) -> Result<Option<Found>, ReaderFault>
         ensures does { Next K.means self.old.setup self.old.progress self.old.at self.old.bytes.now result self.new.progress self.new.at }
         ensures setup { self.new.setup ≡ self.old.setup }

@@ -32,8 +32,8 @@ fn first_record(bytes: &[u8]) -> Option<Record>
     decode(due, bytes).ok().flatten()
 }
 
-// Who sent the message; 0 where the bytes begin with no header, and no `Option`, since it is asked of
-// messages that have been checked.
+// Who sent the message; 0 where the bytes begin with no header. An `Option` would be unwrapped by its one
+// caller, which asks it of messages that have been checked.
 pub fn sender_of(bytes: &[u8]) -> u8
     ensures { result ≡ sender_in (record_in bytes.now) }
 {

@@ -70,7 +70,8 @@ impl<H: History + Made + Drop> Bench<H> {
 
 // The calls, each over all of a table or of the messages. What is refused adds nothing.
 impl<H: History> Bench<H> {
-    // Posts a transaction of the actions of these numbers.
+    // Posts a transaction of the actions of these numbers, but for what is refused: in `script` and
+    // `two_sites` a refused write ends it.
     fn post(&mut self, numbers: Range<usize>) -> Result<(), AllocError> {
         let Ok(ticket) = self.table.open() else {
             return Ok(());

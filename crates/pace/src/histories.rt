@@ -1,4 +1,5 @@
-use history::{Rack, Strip};
+use action::MOST_PLACES;
+use history::{PLACE_BYTES, Rack, Strip};
 use std::alloc::{AllocError, Global};
 
 // A history that can be made, of so many places.
@@ -14,7 +15,7 @@ impl Made for Rack {
 
 impl Made for Strip {
     fn made(heap: Global, places: usize) -> Result<Strip, AllocError> {
-        let memory = vec![in heap; 0; 16 * places.min(1024)]?;
+        let memory = vec![in heap; 0; PLACE_BYTES * places.min(MOST_PLACES)]?;
         Ok(Strip::new(memory))
     }
 }

@@ -6,8 +6,8 @@ use kind::Kind;
 use std::alloc::{AllocError, Global};
 use std::collections::BTreeMap;
 
-// Where an action stands in the order of actions: by time, then by coordinator, then by article. It is written
-// here a second time, so that the book leans on nothing of the library's.
+// Where an action stands in the order of actions: by time, then by coordinator, then by article. It is
+// written here a second time, so that the book leans on no order of the library's.
 type Rank = (u32, u8, u8);
 
 fn rank(action: &Action) -> Rank {
@@ -113,8 +113,8 @@ impl Book {
         }
     }
 
-    // Puts an action among the committed ones, which its coordinator reaches. Answers whether no other has its
-    // coordinator and time.
+    // Puts an action among the committed ones, which its coordinator reaches. Answers whether no other has
+    // its coordinator and time.
     fn enter(&mut self, action: Action) -> Result<bool, AllocError> {
         let is_new = !self.committed.values().any(|other| other.coordinator == action.coordinator
             && other.time == action.time);

@@ -35,7 +35,8 @@ impl Dice {
         if n == 0 {
             return 0;
         }
-        // The rest is below `n`, so the cast is proved to lose nothing; `try_from` would ask what to do where it does.
+        // The rest is below `n`, so the cast is proved to lose nothing; `try_from` would ask what to do where
+        // it does.
         ((self.next() >> 32) % u64::from(n)) as u32
     }
 
@@ -50,7 +51,7 @@ impl Dice {
         self.below(100) < percent
     }
 
-    // Any number of 32 bits, signed.
+    // Any number of 32 bits but −1, signed.
     pub(crate) fn any(&mut self) -> i32 {
         self.below(u32::MAX).cast_signed()
     }

@@ -1,5 +1,5 @@
-// The refusals that a line can be due, each by its number. They are not the tables' own faults, so that the book
-// leans on nothing of the library's.
+// The refusals that a line can be due, each by its number. They are not the tables' own faults, so that what
+// is due leans on none of them.
 #[derive(Clone, Copy)]
 pub(crate) enum Due {
     AlreadyOpen = 2,

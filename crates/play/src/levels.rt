@@ -97,8 +97,8 @@ impl<K: Kind + Drop, J: Kind + Drop> Run<K, J> {
         (0..self.sites).try_for_each(|site| self.archive_line(site, article))
     }
 
-    // Brings an article level, as far as the transactions that are open and the histories' room allow: one site
-    // gathers all actions and hands them out, and then each tells all others what it has.
+    // Brings an article level, as far as the transactions that are open and the histories' room allow: one
+    // site gathers all actions and hands them out, and then each tells all others what it has.
     pub(crate) fn bring_level(&mut self, article: u8) -> Result<(), Stop> {
         let hub = self.dice.byte(self.sites);
         self.pass_all(|site| Offer {

@@ -96,7 +96,7 @@ impl<K: Kind + Drop, J: Kind + Drop> Run<K, J> {
             return Ok(None);
         };
         let mut buffer = [0; SLOT_BYTES];
-        let most = space.most.min(SLOT_BYTES);
+        let most = space.most;
         let answer = table.offer(offer.peer, offer.article, &mut buffer[..most]);
         if let Ok(length) = answer {
             self.put(space.slot, &buffer[..length.min(most)])?;
@@ -111,7 +111,7 @@ impl<K: Kind + Drop, J: Kind + Drop> Run<K, J> {
             Some(Due::NoArticle)
         } else if offer.peer >= self.sites {
             Some(Due::NoSite)
-        } else if length > space.most.min(SLOT_BYTES) {
+        } else if length > space.most {
             Some(Due::Short)
         } else {
             None

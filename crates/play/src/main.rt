@@ -2,8 +2,8 @@
 // that it keeps itself. The laws are proved of every run; this program is a test beside the proofs, of the
 // compiled tables. Its own functions are proved only to be safe and to end.
 //
-// A run cannot meet every refusal: 1 is that of a set-up, 17 that of a history, 18 that of a script, and 8 needs
-// a clock near 4,000,000,000, which a run that starts at 0 does not reach. All others are met.
+// A run cannot meet every refusal: 1 is that of a set-up, 17 that of a history, 18 that of a script, and 8
+// needs a clock near 4,000,000,000, which a run that starts at 0 does not reach. All others are met.
 #![tactic(auto)]
 
 mod books;
@@ -41,8 +41,9 @@ struct Wish {
     lines: u32,
 }
 
-// A run of one kind; `J` is another one. The outsiders take turns, each when all kinds have had the one before.
-// Here and below the runtime stays a parameter beside the counts, since it is passed by itself everywhere.
+// A run of one kind; `J` is another one. The outsiders take turns, each when all kinds have had the one
+// before. The runtime stays beside the counts here and below, since a run keeps the counts for itself and
+// gives them back.
 fn play_kind<K: Kind + Drop, J: Kind + Drop>(
     rt: &HostRuntime,
     counts: &mut Counts,
@@ -58,7 +59,8 @@ fn play_kind<K: Kind + Drop, J: Kind + Drop>(
     }
 }
 
-// All runs, until one is not as it has to be. The kinds take turns, by the run's number, since no list holds types.
+// All runs, until one is not as it has to be. The kinds take turns, by the run's number, since no list holds
+// types.
 fn play_all(rt: &HostRuntime, counts: &mut Counts, wish: Wish) -> Result<(), Stop> {
     for run in 0..wish.runs {
         counts.begin(run);
@@ -90,7 +92,8 @@ fn print_outcome(rt: &HostRuntime, counts: &Counts, is_whole: bool) -> io::Resul
     println!(rt; "laws hold: a {figures}, b {levels} ({moved_levels} with actions), c {repeats}")
 }
 
-// The number that digits write. A longer one than fits wraps, where `parse` would refuse it: any digits are a seed.
+// The number that digits write. A longer one than fits wraps, where `parse` would refuse it: any digits are a
+// seed.
 fn number(digits: &[u8]) -> u64 {
     digits.iter().fold(0, |number: u64, digit| {
         let digit = u64::from(digit.wrapping_sub(b'0'));

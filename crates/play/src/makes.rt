@@ -3,13 +3,13 @@ use crate::books::Book;
 use crate::chances::Dice;
 use crate::outsiders::{Outsider, Stranger};
 use crate::reports::Counts;
-use crate::runs::{Run, SLOTS, Shelf};
+use crate::runs::{Run, SLOTS};
 use crate::seats::Seat;
 use crate::slots::Slot;
 use crate::stops::Stop;
 use action::Setup;
 use either::{Left, Right};
-use history::{Rack, Strip};
+use history::{PLACE_BYTES, Rack, Shelf, Strip};
 use kind::Kind;
 use std::alloc::{AllocError, Global};
 use table::Table;
@@ -41,7 +41,7 @@ impl Maker {
         if self.dice.chance(50) {
             return Ok(Left(Rack::new(self.heap, places)?));
         }
-        let memory = vec![in self.heap; 0; places.wrapping_mul(16)]?;
+        let memory = vec![in self.heap; 0; places.wrapping_mul(PLACE_BYTES)]?;
         Ok(Right(Strip::new(memory)))
     }
 
@@ -69,15 +69,15 @@ impl Maker {
     fn make_outsider<J: Kind + Drop>(
         &mut self,
         group: u32,
-        likeness: Stranger,
+        unlike: Stranger,
     ) -> Result<Outsider<J>, Stop> {
-        let other = match likeness {
+        let other = match unlike {
             Stranger::OtherGroup => group.wrapping_add(1),
             Stranger::OtherKind | Stranger::Twin => group,
         };
         let setup = Setup::new(other, 2, self.dice.below(2), 1)?;
         let seat = self.make_seat(setup, 1)?;
-        Ok(Outsider { seat, likeness })
+        Ok(Outsider { seat, unlike })
     }
 
     // The seats of a group, by site.

@@ -1,4 +1,6 @@
 // What a line is given, by chance.
+ghost use Rattle.std.specs.Prelude.{◌≤◌};
+
 use crate::chances::Dice;
 use crate::outsiders::MOST_SITES;
 use crate::runs::{Run, SLOTS};
@@ -18,7 +20,7 @@ pub(crate) struct Movement {
 #[derive(Clone, Copy, PartialEq, Eq)]
 pub(crate) enum Holder {
     Own,
-    // Another site of the group.
+    // Another site.
     Site(u8),
     // The table outside the group.
     Outsider,
@@ -65,7 +67,9 @@ fn pick_other(dice: &mut Dice) -> Holder {
 }
 
 // How many bytes a message may have: mostly a whole slot, or too few for some messages.
-pub(crate) fn pick_most(dice: &mut Dice) -> usize {
+pub(crate) fn pick_most(dice: &mut Dice) -> usize
+    ensures { result ≤ 2048 }
+{
     if dice.chance(80) {
         SLOT_BYTES
     } else {

@@ -121,7 +121,8 @@ impl<K: Kind + Drop, J: Kind + Drop> Run<K, J> {
         }
     }
 
-    // Lines by chance, until something is not as it has to be. All laws are checked at all sites now and then.
+    // Lines by chance, until something is not as it has to be. All laws are checked at all sites now and
+    // then.
     fn play_lines(&mut self, lines: u32) -> Result<(), Stop> {
         for i in 0..lines {
             self.any_line()?;
@@ -135,8 +136,8 @@ impl<K: Kind + Drop, J: Kind + Drop> Run<K, J> {
         Ok(())
     }
 
-    // The end of a run: every transaction is ended, two articles are brought level as far as that goes, and all
-    // laws are checked.
+    // The end of a run: every transaction is ended, two articles are brought level as far as that goes, and
+    // all laws are checked.
     fn close(&mut self) -> Result<(), Stop> {
         self.settle()?;
         for article in 0..self.articles.min(2) {
@@ -158,7 +159,8 @@ impl<K: Kind + Drop, J: Kind + Drop> Run<K, J> {
     }
 }
 
-// One run. What is broken is said before the tables are let go, since a table with a fault might refuse its own ticket.
+// One run. What is broken is said before the tables are let go, since a table with a fault might refuse its
+// own ticket.
 pub(crate) fn play_run<K: Kind + Drop, J: Kind + Drop>(
     rt: &HostRuntime,
     counts: &mut Counts,

@@ -103,7 +103,8 @@ pub(crate) struct Counts {
     line: u32,
     lines: usize,
     granted: usize,
-    // By the refusal's number. No number is above 18, so that an array has room for each; it is copied with the rest.
+    // By the refusal's number. No number is above 18, so that an array has room for each; it is copied with
+    // the rest.
     refused: [usize; 19],
     pub(crate) committed: usize,
     pub(crate) taken: usize,

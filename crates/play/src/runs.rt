@@ -5,17 +5,13 @@ use crate::outsiders::Outsider;
 use crate::reports::Counts;
 use crate::seats::Seat;
 use crate::slots::Slot;
-use either::Either;
-use history::{Rack, Strip};
+use history::Shelf;
 use kind::Kind;
 use std::alloc::{AllocError, Global};
 use table::Table;
 
 // How many messages wait at a time; an older one is lost when another goes into its slot.
 pub(crate) const SLOTS: u8 = 12;
-
-// A site's table stands on either of the two histories.
-pub(crate) type Shelf = Either<Rack, Strip>;
 
 // `K` is the kind of the sites' tables, and `J` that of the one outside the group.
 #[derive(Drop)]
@@ -64,8 +60,8 @@ impl<K: Kind + Drop, J: Kind + Drop> Run<K, J> {
         places.saturating_sub(self.book.kept(site))
     }
 
-    // What a table shows; `None` where there is no such table, article or site. A site and an article stay two
-    // numbers here and below, as they are in the calls of a table.
+    // What a table shows; `None` where there is no such table, article or site. A site and an article stay
+    // two numbers here and below, since the one picks the table and the other goes on to it.
     pub(crate) fn clock(&self, site: u8) -> Option<u32> {
         Some(self.table(site)?.clock())
     }

@@ -1,4 +1,5 @@
-// A table and the ticket of its open transaction, which cannot be let go: a seat that is let go abandons by it.
+// A table and the ticket of its open transaction, which cannot be let go: a seat that is let go abandons by
+// it.
 ghost use Rattle.std.specs.Prelude.{◌≡◌, true, Some, None, MatchResult};
 ghost use Rattle.play.specs.Calls.{Fair};
 ghost use Rattle.table.specs.Transactions.{holds};
@@ -11,7 +12,8 @@ use table::{Table, TableFault, Ticket};
 // What a call by a ticket answered, and the ticket where the call did not spend it.
 pub(crate) type Answered<T> = (Result<T, TableFault>, Option<Ticket>);
 
-// A call by a ticket. It is a trait and no closure, since a bound on a closure that takes a table cannot be stated yet.
+// A call by a ticket. It is a trait and no closure: the check refuses a bound on a closure that takes a
+// generic table ("cannot state an item with such a type in a bound yet").
 pub(crate) trait Call: Drop {
     type Answer;
 
@@ -130,7 +132,8 @@ impl<K: Kind + Drop, H: History + Drop> Seat<K, H> {
         Some(answer)
     }
 
-    // Makes a call by the ticket of another seat. One that is spent was as the own one, which takes its place.
+    // Makes a call by the ticket of another seat. Where the table spends it, it bore the same numbers as the
+    // own ticket, which goes to the other seat.
     pub(crate) fn call_by<J: Kind + Drop, C: Call>(
         &mut self,
         other: &mut Seat<J, H>,

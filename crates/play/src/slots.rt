@@ -1,4 +1,6 @@
 // Where messages wait to be taken.
+ghost use Rattle.std.specs.Prelude.{◌≤◌};
+
 use std::alloc::{AllocError, Global};
 use std::collections::BTreeSet;
 
@@ -47,6 +49,7 @@ impl Slot {
 pub(crate) struct Space {
     pub(crate) slot: u8,
     pub(crate) most: usize,
+    ghost within: { most ≤ 2048 },
 }
 
 impl Space {

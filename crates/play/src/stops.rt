@@ -6,7 +6,8 @@ use std::io;
 #[derive(Debug, Drop)]
 pub enum Stop {
     Memory,
-    Printing,
+    // Reading or printing.
+    Io,
     Unlawful,
     Broken,
 }
@@ -25,7 +26,7 @@ impl<T: Drop> From<AllocFailed<T>> for Stop {
 
 impl From<io::Error> for Stop {
     fn from(_e: io::Error) -> Stop {
-        Stop::Printing
+        Stop::Io
     }
 }
 

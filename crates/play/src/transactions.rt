@@ -122,7 +122,7 @@ impl<K: Kind + Drop, J: Kind + Drop> Run<K, J> {
     pub(crate) fn commit_line(&mut self, turn: Turn, space: Space) -> Result<(), Stop> {
         let line = self.begin(turn.site, self.due_of_commit(turn))?;
         let mut buffer = [0; SLOT_BYTES];
-        let most = space.most.min(SLOT_BYTES);
+        let most = space.most;
         let Some(answer) = self.call(turn, Commit(&mut buffer[..most])) else {
             return Ok(());
         };

@@ -1,4 +1,4 @@
-// A reading of messages of the program's own, so that its book leans on nothing of the library's.
+// A reading of messages of the program's own, so that its book leans on no reading of the library's.
 ghost use Rattle.std.specs.Prelude.{length};
 ghost use Rattle.std.specs.Iterator.{at_most};
 

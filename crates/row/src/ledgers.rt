@@ -4,7 +4,8 @@ use crate::rows::Row;
 use action::Setup;
 
 // What a table keeps of all its articles, with room for as many as a group may have, since it takes no
-// memory later.
+// memory later. The set-up is kept beside them, though each change has to say that it stays: nearly every
+// function asks for the own site or the number of sites, and would be lent it.
 #[derive(Drop)]
 pub struct Ledger {
     pub setup: Setup,

@@ -24,7 +24,7 @@ pub(crate) fn take_out<H: History>(history: &mut H, i: usize)
 }
 
 // The place behind the last action that precedes this one, looked for from the end, since what comes
-// is mostly later than what is there. By places, since a history is read by them alone.
+// is mostly later than what is there. By places, since the walk by `actions` goes from the front alone.
 fn place_of<H: History>(history: &H, action: &Action) -> usize
     ensures { result ≡ place_of (H.items history.now) action.now }
 {

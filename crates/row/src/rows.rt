@@ -7,7 +7,7 @@ use kind::Kind;
 
 // What is kept of one article: the figure up to where the history begins, the figure with the
 // history, and `known[z][q]`, up to what time site z is known to have the actions of site q, with room for
-// as many sites as a group may have.
+// as many sites as a group may have, since a table takes no memory later.
 #[derive(Clone, Copy)]
 pub struct Row {
     pub base: i64,

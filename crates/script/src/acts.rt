@@ -2,14 +2,14 @@
 ghost use Rattle.script.specs.Acts.{Moved, Offered};
 
 use crate::answers::Answer;
-use crate::desks::Shelf;
 use crate::faults::LineFault;
 use crate::slots::{SLOT_BYTES, Slot};
+use history::Shelf;
 use kind::OnHand;
 use table::Table;
 
-// A transaction of one write, whose message goes into the slot.
-// Like `post` of `two_sites`: a table has seven calls, none of which posts in one go, and an example stands alone.
+// A transaction of one write, whose message goes into the slot. Like `post` of `two_sites`: the rules fix a
+// table's calls, no crate stands between `table` and these two, and `two_sites` is read by itself.
 pub(crate) fn move_stock(
     table: &mut Table<OnHand, Shelf>,
     article: u8,

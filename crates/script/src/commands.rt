@@ -3,7 +3,7 @@ ghost use Rattle.script.specs.Desk.{letter};
 ghost use Rattle.script.specs.Lines.{site_of};
 
 // What a line asks of the desk: which site acts, and on what. A site, a peer, an article and a slot
-// are a digit each.
+// are a digit each. Each form has its fields as its line writes them, also those that all forms have.
 #[derive(Clone, Copy, Debug, PartialEq, Eq)]
 pub enum Command {
     Move {

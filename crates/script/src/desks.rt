@@ -1,12 +1,8 @@
 use crate::slots::Slot;
-use either::Either;
-use history::{Rack, Strip};
+use history::Shelf;
 use kind::OnHand;
 use std::marker::Model;
 use table::Table;
-
-// A site's table stands on either of the two histories.
-pub(crate) type Shelf = Either<Rack, Strip>;
 
 // Three sites of one group, and the slots that their messages go into.
 #[derive(Drop)]

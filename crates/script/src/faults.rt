@@ -21,7 +21,8 @@ impl From<TableFault> for LineFault {
 }
 
 impl LineFault {
-    // The number that the line is refused by.
+    // The number that the line is refused by: all that a sheet says of a refusal, so there is no `From` for
+    // `Refusal`.
     pub fn number(&self) -> u8
         ensures { result ≡ number_of self.now }
     {

@@ -5,7 +5,7 @@ use crate::desks::Desk;
 use crate::slots::Slot;
 use action::Setup;
 use either::Either;
-use history::{Rack, Strip};
+use history::{PLACE_BYTES, Rack, Strip};
 use std::alloc::{AllocError, Global};
 use table::Table;
 
@@ -13,7 +13,7 @@ use table::Table;
 const PLACES: usize = 64;
 
 // The memory of a strip with that many places.
-const STRIP_BYTES: usize = 1024;
+const STRIP_BYTES: usize = PLACES * PLACE_BYTES;
 
 // The set-up of one of the three sites.
 fn setup(site: u32) -> Setup

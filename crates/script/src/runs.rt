@@ -6,12 +6,13 @@ ghost use Rattle.script.specs.Sheets.{sheet_bytes};
 use crate::acts::{move_stock, offer_article};
 use crate::answers::Answer;
 use crate::commands::Command;
-use crate::desks::{Desk, Shelf};
+use crate::desks::Desk;
 use crate::faults::LineFault;
 use crate::parses::parse;
 use crate::prints::print;
 use crate::sheets::SheetLine;
 use crate::slots::Slot;
+use history::Shelf;
 use kind::OnHand;
 use table::Table;
 

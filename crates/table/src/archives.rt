@@ -19,6 +19,7 @@ impl<H: History> Store<H> {
         let ledger = &mut self.state.ledger;
         let time = ledger.least_entry(article);
         let at = usize::from(article);
+        // Not lent where it stands: of what is lent so the proof does not know that it fits 64 bits.
         let mut base = ledger.rows[at].base;
         let gone = move_actions::<K, H>(&mut base, &mut self.history, article, time);
         ledger.rows[at].base = base;

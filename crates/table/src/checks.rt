@@ -1,11 +1,14 @@
 // What several calls check first.
-ghost use Rattle.std.specs.Prelude.{not, nat_lt};
+ghost use Rattle.std.specs.Prelude.{◌+◌, not, length, nat_le, nat_lt};
 ghost use Rattle.std.specs.Option.{is_some};
 ghost use Rattle.table.specs.Faults.{Passes};
-ghost use Rattle.table.specs.declared.faults.TableFault.TheVariants.{AlreadyOpen as IsOpen, NoArticle as IsNoArticle, NoSite as IsNoSite};
+ghost use Rattle.history.specs.declared.faults.HistoryFault.TheVariants.{Full};
+ghost use Rattle.table.specs.declared.faults.TableFault.TheVariants.{AlreadyOpen as IsOpen, InHistory as IsInHistory, NoArticle as IsNoArticle, NoSite as IsNoSite};
 
 use crate::faults::TableFault;
 use crate::state::State;
+use crate::stores::Store;
+use history::{History, HistoryFault};
 
 impl State {
     // No transaction is open.
@@ -34,6 +37,19 @@ impl State {
     {
         if site >= self.ledger.setup.sites {
             return Err(TableFault::NoSite);
+        }
+        Ok(())
+    }
+}
+
+impl<H: History> Store<H> {
+    // The history has room for so many more.
+    pub(crate) fn check_room(&self, more: usize) -> Result<(), TableFault>
+        ensures { Passes (nat_le (length self.now.history + more) self.now.capacity) (IsInHistory (Full self.now.capacity)) result }
+    {
+        let capacity = self.history.capacity();
+        if more > capacity - self.history.count() {
+            return Err(HistoryFault::Full(capacity).into());
         }
         Ok(())
     }

@@ -10,12 +10,12 @@ use crate::state::{State, written_in};
 use crate::stores::Store;
 use crate::tables::Table;
 use crate::tickets::Ticket;
-use history::{History, HistoryFault};
+use history::History;
 use kind::Kind;
 use row::append;
 
-// Writes the transaction's message where there were writes and it fits, and answers its length: 0 where
-// it wrote none, as the call answers.
+// Writes the transaction's message where there were writes and it fits, and answers its length, as the
+// call does: 0 where it wrote none.
 fn send<K: Kind>(state: &State, buffer: &mut [u8]) -> usize
     ensures length { result ≡ length (fitting (transaction_bytes K.means (bare state.now)) buffer.old) }
     ensures bytes { buffer.new ≡ overwritten buffer.old 0 (fitting (transaction_bytes K.means (bare state.now)) buffer.old) }
@@ -60,9 +60,8 @@ impl<H: History> Store<H> {
             return Err((TableFault::NotItsTicket, ticket));
         }
         let writes = written_in(&self.state.transaction).len();
-        let capacity = self.history.capacity();
-        if self.history.count() + writes > capacity {
-            return Err((HistoryFault::Full(capacity).into(), ticket));
+        if let Err(fault) = self.check_room(writes) {
+            return Err((fault, ticket));
         }
         ticket.spend();
         let length = send::<K>(&self.state, buffer);

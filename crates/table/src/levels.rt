@@ -8,7 +8,7 @@ ghost use Rattle.table.specs.Taking.{Took, is_new, taken};
 use crate::faults::TableFault;
 use crate::stores::Store;
 use crate::tables::Table;
-use history::{History, HistoryFault};
+use history::History;
 use kind::Kind;
 use message::check;
 
@@ -36,10 +36,7 @@ impl<H: History> Store<H> {
             return Err(TableFault::Ahead(place));
         }
         let new = self.state.ledger.count_new(bytes);
-        let capacity = self.history.capacity();
-        if new > capacity - self.history.count() {
-            return Err(HistoryFault::Full(capacity).into());
-        }
+        self.check_room(new)?;
         self.absorb::<K>(bytes);
         Ok(new)
     }

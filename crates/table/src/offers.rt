@@ -16,7 +16,7 @@ use crate::tables::Table;
 use action::Action;
 use history::{History, actions};
 use kind::Kind;
-use message::{Header, Interval, Record, SectionHead};
+use message::{Interval, Record, SectionHead};
 
 // What is asked for: the actions on an article that a peer is not known to have.
 #[derive(Clone, Copy)]
@@ -105,12 +105,7 @@ impl Offer {
         if needed > buffer.len() {
             return Err(TableFault::Short(needed));
         }
-        let header = Header {
-            group: setup.group,
-            kind: K::number(),
-            sender: setup.own,
-            sections: 1,
-        };
+        let header = state.header::<K>(1);
         let head = SectionHead {
             article: self.article,
             intervals: setup.sites,

@@ -12,7 +12,7 @@ use crate::emits::emit;
 use crate::state::{State, written_in};
 use action::Action;
 use kind::Kind;
-use message::{Header, Interval, Record, SectionHead};
+use message::{Interval, Record, SectionHead};
 
 // How many sections a message has, and its length.
 #[derive(Clone, Copy)]
@@ -83,7 +83,8 @@ impl State {
         put_on(pending, article, buffer, at)
     }
 
-    // How many sections the message has, and its length.
+    // How many sections the message has, and its length. This and the next walk over the articles written by
+    // themselves: an iterator over those would want a type, a model and lemmas of its own.
     pub(crate) fn measure<K: Kind>(&self) -> Size
         ensures sections { result.sections ≡ length (written_articles (bare self.now)) }
         ensures few { result.sections ≤ 64 }
@@ -125,13 +126,7 @@ impl State {
         requires room { length (format (transaction_message K.means (bare self.now))) ≤ length buffer.old }
         ensures { buffer.new ≡ overwritten buffer.old 0 (format (transaction_message K.means (bare self.now))) }
     {
-        let setup = self.ledger.setup;
-        let header = Header {
-            group: setup.group,
-            kind: K::number(),
-            sender: setup.own,
-            sections: sections as u8,
-        };
+        let header = self.header::<K>(sections as u8);
         let at = emit(buffer, 0, Record::Header(header));
         self.put_sections(buffer, at);
     }

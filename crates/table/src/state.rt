@@ -1,4 +1,5 @@
 ghost use Rattle.std.specs.Prelude.{◌≡◌, ◌≤◌, length};
+ghost use Rattle.message.specs.declared.records.Header.{Header as AHeader};
 ghost use Rattle.table.specs.Transactions.{holds};
 ghost use Rattle.table.specs.View.{bare, written_in};
 
@@ -6,6 +7,7 @@ use crate::tickets::Ticket;
 use action::{Action, MOST_WRITES};
 use arrayvec::ArrayVec;
 use kind::Kind;
+use message::Header;
 use row::Ledger;
 
 // What an open transaction has written so far.
@@ -19,7 +21,8 @@ pub struct State {
     pub transaction: Option<Pending>,
 }
 
-// What the transaction has written, nothing where none is open.
+// What the transaction has written, nothing where none is open. Of that field alone, since a commit changes
+// the ledger beside it.
 pub(crate) fn written_in(transaction: &Option<Pending>) -> &[Action]
     ensures value { result.now ≡ written_in transaction.now }
     ensures few { length result.now ≤ 16 }
@@ -40,5 +43,18 @@ impl State {
             && ticket.kind == K::number()
             && ticket.site == self.ledger.setup.own
             && ticket.clock == self.clock
+    }
+
+    // The header of a message of this site's.
+    pub(crate) fn header<K: Kind>(&self, sections: u8) -> Header
+        ensures { ◌≡◌ {A = AHeader} result (record { group = self.now.ledger.setup.group; kind = K.means.number; sender = self.now.ledger.setup.own; sections = sections }) }
+    {
+        let setup = self.ledger.setup;
+        Header {
+            group: setup.group,
+            kind: K::number(),
+            sender: setup.own,
+            sections,
+        }
     }
 }

@@ -4,7 +4,7 @@ use kind::Kind;
 use std::marker::{Model, PhantomData};
 
 // One site's copy of its group's articles, for any kind of figure and any history. Contracts speak of
-// what it holds, and every table is sound.
+// what it holds, and every table is sound: its calls are those of its store, and keep that.
 #[derive(Drop)]
 pub struct Table<K: Kind, H: History> {
     pub(crate) store: Store<H>,

@@ -12,6 +12,7 @@ fn main(rt: HostRuntime) -> io::Result<()> {
     each_movement_counted_once::<OnHand>();
     let mut input = Vec::new(rt.alloc());
     rt.stdin()
+        // There is no `From` of a `usize`.
         .take(LONGEST_SCRIPT as u64)
         .read_to_end(&mut input)?;
     let mut desk = Desk::new(rt.alloc())?;

@@ -5,13 +5,13 @@
 ghost use Rattle.std.specs.Prelude.{◌≤◌, length, IfOk};
 
 use action::{Refusal, Setup};
-use history::{History, Rack, Strip};
+use history::{History, PLACE_BYTES, Rack, Strip};
 use kind::OnHand;
 use std::io;
 use table::{Table, TableFault};
 
-// Posts a movement on article 0, and answers how many bytes of the buffer its message takes.
-// Like `move_stock` of `script`: a table has seven calls, none of which posts in one go, and an example stands alone.
+// Posts a movement on article 0, and answers how many bytes of the buffer its message takes. `script` has
+// one like it, `move_stock`: the rules fix a table's calls, and an example is read by itself.
 fn post<H: History>(
     table: &mut Table<OnHand, H>,
     amount: i32,
@@ -53,9 +53,9 @@ fn main(rt: HostRuntime) -> io::Result<()> {
     // Group 1 has two sites; these are sites 0 and 1, with one article. Both set-ups are lawful.
     let setup_0 = Setup::new(1, 2, 0, 1).unwrap();
     let setup_1 = Setup::new(1, 2, 1, 1).unwrap();
-    // Each history has 64 places. One of a strip takes 16 bytes.
+    // Each history has 64 places.
     let mut site_0 = Table::new(setup_0, Rack::new(heap, 64)?);
-    let mut site_1 = Table::new(setup_1, Strip::new(vec![in heap; 0; 1024]?));
+    let mut site_1 = Table::new(setup_1, Strip::new(vec![in heap; 0; 64 * PLACE_BYTES]?));
     match repeated_job(&mut site_0, &mut site_1) {
         Ok(takes) => for (taken, figure) in takes {
             println!(rt; "taken {taken}, figure {figure}")?;

@@ -42,7 +42,7 @@ returns g c =
     let S = head kind v p a in
     let I = flat_map interval_bytes (intervals kind v p a) in
     let A = flat_map action_bytes (actions kind v p a) in
-    let first : c.emit-at.new.buffer ≡ overwritten b 0 H = c.emit-at.ensures.bytes ∙ ap (λ k. overwritten b 0 (header_bytes (record { group = v.setup.group; kind = k; sender = v.setup.own; sections = 1 }))) c.number.ensures in
+    let first : c.emit-at.new.buffer ≡ overwritten b 0 H = c.emit-at.ensures.bytes ∙ ap (λ h. overwritten b 0 (header_bytes h)) c.header-header.ensures in
     let second : c.emit-at-2.new.buffer ≡ overwritten c.emit-at.new.buffer c.emit-at.result S = c.emit-at-2.ensures.bytes ∙ (λ i. overwritten c.emit-at.new.buffer c.emit-at.result (section_bytes (record { article = a; intervals = sym (length-map-range_with_len (offer_interval v p a) 0 sites) i; actions = counted i }))) in
     let end₁ : c.emit-at.result ≡ 6 = c.emit-at.ensures.end in
     let end₂ : c.emit-at-2.result ≡ c.emit-at.result + 5 = c.emit-at-2.ensures.end in

@@ -24,5 +24,5 @@ returns g c =
     let end : c.emit-at.result ≡ 6 = c.emit-at.ensures.end in
     let long = length_transaction v kind in
     let sections = c.requires.sections.0 ∙ sym (length-map (written_articles v) (transaction_section v)) in
-    let first : c.emit-at.new.buffer ≡ overwritten b 0 (header v kind) = c.emit-at.ensures.bytes ∙ (λ i. overwritten b 0 (header_bytes (record { group = v.setup.group; kind = c.number.ensures i; sender = v.setup.own; sections = sections i }))) in
+    let first : c.emit-at.new.buffer ≡ overwritten b 0 (header v kind) = c.emit-at.ensures.bytes ∙ ap (λ h. overwritten b 0 (header_bytes h)) c.header-header.ensures ∙ ap (λ n. overwritten b 0 (header_bytes (record { group = v.setup.group; kind = kind.number; sender = v.setup.own; sections = n }))) sections in
     written_then b _ _ (header v kind) (wrote v v.setup.articles) 0 c.emit-at.result (omega arith) (omega arith) first c.put_sections.ensures ∙ ap (overwritten b 0) (sym (transaction_is v kind))
