@@ -4,10 +4,10 @@
 //!
 //! Build:  mkdir -p target && rustc --edition 2021 -O second/main.rs -o target/second
 //!
-//! second script [--without-taking] < SCRIPT > SHEET
+//! second script < SCRIPT > SHEET
 //!     Runs a script of the line language and prints its sheet.
-//! second scripts SEED COUNT DIR [--without-taking]
-//!     Makes DIR/0000.script and so on, each with the expected DIR/0000.sheet.
+//! second scripts SEED COUNT DIR
+//!     Makes DIR/scripts/0000 and so on, what each prints as DIR/sheets/0000, and tells what they cover.
 //! second read GROUP KIND SITES ARTICLES < MESSAGE
 //!     Prints what the call for C would answer, and the place of the refusal, or `-`.
 //! second messages SEED COUNT DIR
@@ -20,13 +20,13 @@
 //! second selftest
 //!     Checks the worked examples of the documents, and the makers against the reader and the tables.
 //!
-//! With `--without-taking`, a line that begins with `T` is a line of no known form. The status is 0 if all
-//! went well, 1 if something failed, and 2 if the command was not understood.
+//! The status is 0 if all went well, 1 if something failed, and 2 if the command was not understood.
 
 #![forbid(unsafe_code)]
 
 mod bench;
 mod cases;
+mod coverage;
 mod damage_actions;
 mod damage_heads;
 mod draft;
@@ -51,10 +51,9 @@ use std::path::PathBuf;
 use std::process::ExitCode;
 
 use reader::Question;
-use script::Taking;
 
-const USAGE: &str = "usage: second script [--without-taking] < SCRIPT
-       second scripts SEED COUNT DIR [--without-taking]
+const USAGE: &str = "usage: second script < SCRIPT
+       second scripts SEED COUNT DIR
        second read GROUP KIND SITES ARTICLES < MESSAGE
        second messages SEED COUNT DIR
        second bench DIR ROUNDS
@@ -62,14 +61,11 @@ const USAGE: &str = "usage: second script [--without-taking] < SCRIPT
        second selftest";
 
 enum Command {
-    Script {
-        taking: Taking,
-    },
+    Script,
     Scripts {
         seed: u64,
         count: usize,
         dir: PathBuf,
-        taking: Taking,
     },
     Read {
         group: u32,
@@ -92,22 +88,13 @@ enum Command {
 
 impl Command {
     fn parse(arguments: &[String]) -> Option<Command> {
-        let (flags, words): (Vec<&str>, Vec<&str>) = arguments
-            .iter()
-            .map(String::as_str)
-            .partition(|word| word.starts_with("--"));
-        let taking = match flags[..] {
-            [] => Taking::Built,
-            ["--without-taking"] => Taking::NotBuilt,
-            _ => return None,
-        };
+        let words: Vec<&str> = arguments.iter().map(String::as_str).collect();
         let command = match words[..] {
-            ["script"] => Command::Script { taking },
+            ["script"] => Command::Script,
             ["scripts", seed, count, dir] => Command::Scripts {
                 seed: seed.parse().ok()?,
                 count: count.parse().ok()?,
                 dir: dir.into(),
-                taking,
             },
             ["read", group, kind, sites, articles] => Command::Read {
                 group: group.parse().ok()?,
@@ -128,23 +115,19 @@ impl Command {
             ["selftest"] => Command::Selftest,
             _ => return None,
         };
-        let scripted = matches!(command, Command::Script { .. } | Command::Scripts { .. });
-        (scripted || flags.is_empty()).then_some(command)
+        Some(command)
     }
 
     /// Runs the command and answers what goes to standard output.
     fn run(self) -> Result<Vec<u8>, String> {
         match self {
-            Command::Script { taking } => {
+            Command::Script => {
                 let script = input(script::INPUT_LIMIT as u64)?;
-                Ok(script::sheet(&script::run(&script, taking)))
+                Ok(script::sheet(&script::run(&script)))
             }
-            Command::Scripts {
-                seed,
-                count,
-                dir,
-                taking,
-            } => Ok(makers::scripts(seed, count, &dir, taking)?.into_bytes()),
+            Command::Scripts { seed, count, dir } => {
+                Ok(makers::scripts(seed, count, &dir)?.into_bytes())
+            }
             Command::Read {
                 group,
                 kind,

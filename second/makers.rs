@@ -6,8 +6,9 @@ use std::fs;
 use std::path::Path;
 
 use crate::cases::Cases;
+use crate::coverage::Coverage;
 use crate::reader::Answer;
-use crate::script::{self, Outcome, Taking};
+use crate::script;
 use crate::script_maker;
 
 /// How often each word came up.
@@ -29,25 +30,19 @@ impl Counts {
     }
 }
 
-pub fn scripts(seed: u64, count: usize, dir: &Path, taking: Taking) -> Result<String, String> {
-    make_dir(dir)?;
-    let mut counts = Counts::default();
+pub fn scripts(seed: u64, count: usize, dir: &Path) -> Result<String, String> {
+    let (scripts, sheets) = (dir.join("scripts"), dir.join("sheets"));
+    make_dir(&scripts)?;
+    make_dir(&sheets)?;
+    let mut coverage = Coverage::new();
     for index in 0..count {
-        let script = script_maker::script(seed, index, taking);
-        let outcomes = script::run(&script, taking);
-        write_file(&dir.join(format!("{index:04}.script")), &script)?;
-        write_file(
-            &dir.join(format!("{index:04}.sheet")),
-            &script::sheet(&outcomes),
-        )?;
-        for outcome in outcomes {
-            counts.add(match outcome {
-                Outcome::Granted { letter, .. } => format!("{letter} granted"),
-                refused => refused.to_string(),
-            });
-        }
+        let name = format!("{index:04}");
+        let script = script_maker::script(seed, index);
+        coverage.add(&script);
+        write_file(&scripts.join(&name), &script)?;
+        write_file(&sheets.join(&name), &script::sheet(&script::run(&script)))?;
     }
-    Ok(counts.account())
+    Ok(coverage.account())
 }
 
 pub fn messages(seed: u64, count: usize, dir: &Path) -> Result<String, String> {

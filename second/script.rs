@@ -14,19 +14,12 @@ pub const SLOTS: usize = 10;
 pub const CAPACITY: usize = 64;
 
 const SLOT_ROOM: usize = 1_200;
-const FRAME: Frame = Frame {
+pub const FRAME: Frame = Frame {
     group: 1,
     kind: Kind::OnHand,
     sites: 3,
     articles: 4,
 };
-
-/// Whether `T` is a letter already.
-#[derive(Clone, Copy, PartialEq, Eq, Debug)]
-pub enum Taking {
-    Built,
-    NotBuilt,
-}
 
 #[derive(Clone, Copy, PartialEq, Eq, Debug)]
 pub enum Line {
@@ -59,7 +52,7 @@ pub enum Line {
 
 impl Line {
     /// The line that these bytes are, or nothing if they are a wrong line.
-    pub fn parse(bytes: &[u8], taking: Taking) -> Option<Line> {
+    pub fn parse(bytes: &[u8]) -> Option<Line> {
         let line = match *bytes {
             [b'M', site, article, sign, d5, d4, d3, d2, d1, d0, slot] => Line::Movement {
                 site: acting(site)?,
@@ -73,7 +66,7 @@ impl Line {
                 article: digit(article)?,
                 slot: digit(slot)?,
             },
-            [b'T', site, slot] if taking == Taking::Built => Line::Take {
+            [b'T', site, slot] => Line::Take {
                 site: acting(site)?,
                 slot: digit(slot)?,
             },
@@ -101,7 +94,7 @@ impl Line {
         }
     }
 
-    fn site(&self) -> u8 {
+    pub fn site(&self) -> u8 {
         match *self {
             Line::Movement { site, .. }
             | Line::Offer { site, .. }
@@ -182,16 +175,14 @@ impl fmt::Display for Outcome {
 }
 
 pub struct Program {
-    taking: Taking,
     lines_run: usize,
     tables: [Table; FRAME.sites as usize],
     slots: [Vec<u8>; SLOTS],
 }
 
 impl Program {
-    pub fn new(taking: Taking) -> Program {
+    pub fn new() -> Program {
         Program {
-            taking,
             lines_run: 0,
             tables: [0, 1, 2].map(|own| Table::new(FRAME, own, CAPACITY)),
             slots: Default::default(),
@@ -213,7 +204,7 @@ impl Program {
             refusal: Refusal::WrongLine(self.lines_run),
         };
         self.lines_run += 1;
-        let Some(line) = Line::parse(bytes, self.taking) else {
+        let Some(line) = Line::parse(bytes) else {
             return wrong;
         };
         let Some(table) = self.tables.get_mut(usize::from(line.site())) else {
@@ -291,8 +282,8 @@ pub fn lines(input: &[u8]) -> impl Iterator<Item = &[u8]> {
 }
 
 /// Runs a whole script.
-pub fn run(input: &[u8], taking: Taking) -> Vec<Outcome> {
-    let mut program = Program::new(taking);
+pub fn run(input: &[u8]) -> Vec<Outcome> {
+    let mut program = Program::new();
     lines(input).map(|line| program.run_line(line)).collect()
 }
 

@@ -3,7 +3,7 @@
 use crate::examples::hex;
 use crate::reader::{Answer, Question};
 use crate::refusal::Refusal;
-use crate::script::{self, Program, Taking};
+use crate::script::{self, Program};
 use crate::selftest::Checks;
 
 pub fn run(checks: &mut Checks) {
@@ -99,7 +99,7 @@ fn the_script(checks: &mut Checks) {
         ("P010", "P 1"),
         ("T05", "T refused 9"),
     ];
-    let mut program = Program::new(Taking::Built);
+    let mut program = Program::new();
     for (number, (line, wanted)) in lines.into_iter().enumerate() {
         let printed = program.run_line(line.as_bytes()).to_string();
         checks.same(&format!("line {number} {line}"), printed.as_str(), wanted);
@@ -138,23 +138,17 @@ fn single_lines(checks: &mut Checks) {
         ("", "? refused 18"),
     ];
     for (line, wanted) in lines {
-        let sheet = script::sheet(&script::run(format!("{line}\n").as_bytes(), Taking::Built));
+        let sheet = script::sheet(&script::run(format!("{line}\n").as_bytes()));
         checks.same(
             &format!("single line {line:?}"),
             sheet,
             format!("{wanted}\n").into_bytes(),
         );
     }
-    let without = script::sheet(&script::run(b"T00\nT0\nF00", Taking::NotBuilt));
-    checks.same(
-        "T not built",
-        without,
-        b"? refused 18\n? refused 18\nF 0\n".to_vec(),
-    );
 }
 
 fn inputs(checks: &mut Checks) {
-    let count = |input: &[u8]| script::run(input, Taking::Built).len();
+    let count = |input: &[u8]| script::run(input).len();
     checks.same("no bytes", count(b""), 0);
     checks.same("one empty line", count(b"\n"), 1);
     checks.same("two empty lines", count(b"\n\n"), 2);
@@ -163,7 +157,7 @@ fn inputs(checks: &mut Checks) {
     let mut long = vec![b'x'; 32_764];
     long.extend(b"\nF00\nF00\n");
     checks.same("cut after a line", count(&long), 2);
-    let sheet = script::sheet(&script::run(&long, Taking::Built));
+    let sheet = script::sheet(&script::run(&long));
     checks.same("cut line", sheet, b"? refused 18\nF 0\n".to_vec());
     checks.same(
         "a line end as the last byte",

@@ -1,7 +1,7 @@
 //! Random scripts. A maker runs each line as it adds it, so that it knows which slots hold what.
 
 use crate::prng::Prng;
-use crate::script::{Line, Program, Taking, CAPACITY, INPUT_LIMIT, SLOTS};
+use crate::script::{Line, Program, CAPACITY, INPUT_LIMIT, SLOTS};
 use crate::wrong_lines::{amount, right_line, text, wrong_line};
 
 /// What a script is mostly about.
@@ -30,7 +30,7 @@ const PROFILES: [Profile; 20] = [
     Profile::Usual,
     Profile::Stale,
     Profile::Crowded,
-    Profile::Usual,
+    Profile::Limit,
     Profile::OneLine,
     Profile::Stale,
     Profile::Noise,
@@ -43,12 +43,11 @@ const PROFILES: [Profile; 20] = [
 ];
 
 /// The script of this index; it does not depend on the others.
-pub fn script(seed: u64, index: usize, taking: Taking) -> Vec<u8> {
+pub fn script(seed: u64, index: usize) -> Vec<u8> {
     let profile = PROFILES[index % PROFILES.len()];
     let mut maker = Maker {
         prng: Prng::for_item(seed, index),
-        program: Program::new(taking),
-        taking,
+        program: Program::new(),
         out: Vec::new(),
     };
     match profile {
@@ -72,7 +71,6 @@ pub fn script(seed: u64, index: usize, taking: Taking) -> Vec<u8> {
 struct Maker {
     prng: Prng,
     program: Program,
-    taking: Taking,
     out: Vec<u8>,
 }
 
@@ -121,11 +119,8 @@ impl Maker {
         });
     }
 
-    /// A take, which is rare before taking is built.
     fn take(&mut self, site: u8, slot: u8) {
-        if self.taking == Taking::Built || self.prng.one_in(8) {
-            self.push_line(Line::Take { site, slot });
-        }
+        self.push_line(Line::Take { site, slot });
     }
 
     fn offer_and_take(&mut self, site: u8, peer: u8, article: u8) {
@@ -337,7 +332,7 @@ impl Maker {
         let crossing = right_line(&mut self.prng);
         let mut crossing = text(&mut self.prng, crossing);
         let whole = crossing.len();
-        if self.prng.one_in(3) {
+        if self.prng.one_in(2) {
             // The cut makes a right line of a wrong one.
             crossing.extend(b"0123456789");
         }

@@ -2,13 +2,14 @@
 //! rules say of every table.
 
 use crate::cases::Cases;
+use crate::coverage::Coverage;
 use crate::examples;
 use crate::kind::Kind;
 use crate::message_maker::{frame, lawful, Size};
 use crate::prng::Prng;
 use crate::reader::{self, Answer};
 use crate::refusal::Refusal;
-use crate::script::{self, Line, Outcome, Program, Taking};
+use crate::script::{self, Line, Outcome, Program};
 use crate::script_examples;
 use crate::script_maker;
 use crate::table::Table;
@@ -46,6 +47,7 @@ pub fn run() -> Result<String, String> {
     made_messages(&mut checks);
     wrong_lines(&mut checks);
     scripts(&mut checks);
+    coverage(&mut checks);
     if checks.failed.is_empty() {
         Ok(format!("{} checks, all passed\n", checks.made))
     } else {
@@ -120,7 +122,7 @@ fn wrong_lines(checks: &mut Checks) {
     let mut prng = Prng::new(SEED);
     for _ in 0..5_000 {
         let line = wrong_line(&mut prng);
-        let wrong = Line::parse(&line, Taking::Built).is_none() && !line.contains(&10);
+        let wrong = Line::parse(&line).is_none() && !line.contains(&10);
         checks.check(wrong, || format!("a wrong line is right: {line:?}"));
     }
 }
@@ -130,13 +132,8 @@ fn scripts(checks: &mut Checks) {
     let mut granted = 0;
     let mut run = 0;
     for index in 0..200 {
-        let taking = if index % 4 == 3 {
-            Taking::NotBuilt
-        } else {
-            Taking::Built
-        };
-        let bytes = script_maker::script(SEED, index, taking);
-        let mut program = Program::new(taking);
+        let bytes = script_maker::script(SEED, index);
+        let mut program = Program::new();
         for (number, line) in script::lines(&bytes).enumerate() {
             let outcome = program.run_line(line);
             checks.check(can_meet(&outcome, number), || {
@@ -152,6 +149,17 @@ fn scripts(checks: &mut Checks) {
     checks.check(granted * 2 > run, || {
         format!("only {granted} of {run} lines granted")
     });
+}
+
+/// Each class of line and of input is in one script of a hundred at least.
+fn coverage(checks: &mut Checks) {
+    let mut coverage = Coverage::new();
+    for index in 0..1_000 {
+        coverage.add(&script_maker::script(SEED, index));
+    }
+    for class in coverage.rare() {
+        checks.check(false, || format!("rare in scripts: {class}"));
+    }
 }
 
 fn can_meet(outcome: &Outcome, number: usize) -> bool {

@@ -2,12 +2,15 @@
 use Rattle.std.specs.Prelude.{◌≡◌, ℕ, List, length, ℤ, Some, None, Ok, Err, Option, Result}
 use Rattle.action.specs.declared.refusals.Refusal.{Refusal}
 use Rattle.kind.specs.Meanings.{on_hand}
+use Rattle.table.specs.declared.faults.TableFault.{TableFault}
 use Rattle.table.specs.Answers.{figure, figure_refusal, open_item, open_item_refusal}
+use Rattle.table.specs.Faults.{shown}
 use Rattle.table.specs.Offers.{offer_bytes, offer_refusal}
+use Rattle.table.specs.Taking.{Took}
 use Rattle.table.specs.Transactions.{abandoned, commit_refusal, committed, fitting, new_action, next_time, open_refusal, opened, ticket, transaction_bytes, write_refusal, written}
 use Rattle.table.specs.View.{View}
 use Rattle.script.specs.declared.answers.Answer.{Answer}
-use Rattle.script.specs.declared.answers.Answer.TheVariants.{Time, Length, Figure, IsOpen}
+use Rattle.script.specs.declared.answers.Answer.TheVariants.{Time, Length, Taken, Figure, IsOpen}
 use Rattle.script.specs.declared.faults.LineFault.{LineFault}
 use Rattle.script.specs.Faults.{number_of}
 use Rattle.script.specs.Slots.{blank}
@@ -53,6 +56,15 @@ abbrev pub offered : View → ℕ → ℕ → List ℕ → Outcome
 offered v peer article slot =
     decided (offer_refusal on_hand v peer article blank) (refused_at v slot) (record { table = v; slot = offer_bytes on_hand v peer article; answer = Ok (Length (length (offer_bytes on_hand v peer article))) })
 
+-- how many actions were new, or the refusal
+abbrev pub newly : Result ℕ TableFault → Reply
+newly (Ok n) = Ok (Taken n)
+newly (Err e) = refuse (shown e)
+
+-- T: the message in the slot is taken whole, or refused and nothing is changed
+abbrev pub TookSlot : View → List ℕ → Reply → View → Type 0
+TookSlot v slot a after = (r : Result ℕ TableFault) × Took on_hand v slot r after × (a ≡ newly r)
+
 -- F
 abbrev pub figured : View → ℕ → Reply
 figured v article = decided (figure_refusal v article) refuse (Ok (Figure (figure v article)))
@@ -66,7 +78,7 @@ abbrev pub answered : Result Answer LineFault → Reply
 answered (Ok a) = Ok a
 answered (Err e) = Err (number_of e)
 
--- what the two commands that use a slot leave and answer
+-- what the two commands that write into a slot leave and answer
 
 abbrev pub Moved : View → ℕ → ℤ → List ℕ → Result Answer LineFault → View → List ℕ → Type 0
 Moved v article amount slot r after now-held = record { table = after; slot = now-held; answer = answered r } ≡ moved v article amount slot

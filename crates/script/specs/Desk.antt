@@ -5,9 +5,9 @@ use Rattle.kind.specs.Meanings.{on_hand}
 use Rattle.table.specs.View.{View, fresh}
 use Rattle.script.specs.declared.answers.Answer.{Answer}
 use Rattle.script.specs.declared.commands.Command.{Command}
-use Rattle.script.specs.declared.commands.Command.TheVariants.{Move, Offer, Figure, OpenItem}
+use Rattle.script.specs.declared.commands.Command.TheVariants.{Move, Offer, Take, Figure, OpenItem}
 use Rattle.script.specs.declared.faults.LineFault.{LineFault}
-use Rattle.script.specs.Acts.{Outcome, Reply, answered, figured, flagged, moved, offered}
+use Rattle.script.specs.Acts.{Outcome, Reply, TookSlot, answered, figured, flagged, moved, offered}
 use Rattle.script.specs.Lines.{command, site_of}
 use Rattle.script.specs.Sheets.{printed}
 
@@ -79,51 +79,43 @@ pub record SiteTurn : Type 0 where
   pub slots : List (List ℕ)
   pub answer : Reply
 
--- a command that uses a slot
+-- a command that writes into a slot
 abbrev pub settled : List (List ℕ) → ℕ → Outcome → SiteTurn
 settled slots slot o = record { table = o.table; slots = slice_set slots slot o.slot; answer = o.answer }
 
 -- a command, given its site's table and the slots
-abbrev pub acted_at : View → List (List ℕ) → Command → SiteTurn
-acted_at v slots (Move site article amount slot) = settled slots slot (moved v article amount (slice_index_or slots slot []))
-acted_at v slots (Offer site peer article slot) = settled slots slot (offered v peer article (slice_index_or slots slot []))
-acted_at v slots (Figure site article) = record { table = v; slots = slots; answer = figured v article }
-acted_at v slots (OpenItem site peer article) = record { table = v; slots = slots; answer = flagged v peer article }
+abbrev pub ActsAt : View → List (List ℕ) → Command → SiteTurn → Type 0
+ActsAt v slots (Move site article amount slot) t = t ≡ settled slots slot (moved v article amount (slice_index_or slots slot []))
+ActsAt v slots (Offer site peer article slot) t = t ≡ settled slots slot (offered v peer article (slice_index_or slots slot []))
+ActsAt v slots (Take site slot) t = TookSlot v (slice_index_or slots slot []) t.answer t.table × (t.slots ≡ slots)
+ActsAt v slots (Figure site article) t = t ≡ record { table = v; slots = slots; answer = figured v article }
+ActsAt v slots (OpenItem site peer article) t = t ≡ record { table = v; slots = slots; answer = flagged v peer article }
 
 abbrev pub ActedAt : View → List (List ℕ) → Command → Result Answer LineFault → View → List (List ℕ) → Type 0
-ActedAt v slots c r after now-slots = record { table = after; slots = now-slots; answer = answered r } ≡ acted_at v slots c
+ActedAt v slots c r after now-slots = ActsAt v slots c (record { table = after; slots = now-slots; answer = answered r })
 
--- what a command leaves of the desk, and what it answers
-pub record Turn : Type 0 where
-  pub desk : DeskView
-  pub answer : Reply
-
--- the other sites' tables stay
-abbrev pub turned : DeskView → ℕ → SiteTurn → Turn
-turned d site t = record { desk = with_slots (with_table d site t.table) t.slots; answer = t.answer }
-
-abbrev pub acted : DeskView → Command → Turn
-acted d c = turned d (site_of c) (acted_at (table_at d (site_of c)) d.slots c)
+-- a command, what it answers and the desk that it leaves: the other sites' tables stay
+abbrev pub Acts : DeskView → Command → Reply → DeskView → Type 0
+Acts d c a after =
+    let site = site_of c in
+    ActsAt (table_at d site) d.slots c (record { table = table_at after site; slots = after.slots; answer = a }) × (after ≡ with_slots (with_table d site (table_at after site)) after.slots)
 
 abbrev pub Acted : DeskView → Command → Result Answer LineFault → DeskView → Type 0
-Acted d c r after = record { desk = after; answer = answered r } ≡ acted d c
-
--- what a line leaves and prints
-pub record Line : Type 0 where
-  pub desk : DeskView
-  pub bytes : List ℕ
+Acted d c r after = Acts d c (answered r) after
 
 -- the letter that a command is printed under
 abbrev pub letter : Command → ℕ
 letter (Move site article amount slot) = 77
 letter (Offer site peer article slot) = 79
+letter (Take site slot) = 84
 letter (Figure site article) = 70
 letter (OpenItem site peer article) = 80
 
 -- a line of no known form changes nothing, and is printed under `?` as refused by 18
-abbrev pub ran_command : DeskView → Option Command → Line
-ran_command d None = record { desk = d; bytes = printed 63 (Err 18) }
-ran_command d (Some c) = record { desk = (acted d c).desk; bytes = printed (letter c) (acted d c).answer }
+abbrev pub RunsCommand : DeskView → Option Command → DeskView → List ℕ → Type 0
+RunsCommand d None after bytes = (after ≡ d) × (bytes ≡ printed 63 (Err 18))
+RunsCommand d (Some c) after bytes = (a : Reply) × Acts d c a after × (bytes ≡ printed (letter c) a)
 
-abbrev pub ran : DeskView → List ℕ → Line
-ran d line = ran_command d (command line)
+-- a line, the desk that it leaves and what it prints
+abbrev pub Runs : DeskView → List ℕ → DeskView → List ℕ → Type 0
+Runs d line after bytes = RunsCommand d (command line) after bytes

@@ -1,8 +1,8 @@
--- Which lines there are. A line is a letter and a body: `M`, `O`, `F` or `P`, and then fields with nothing
+-- Which lines there are. A line is a letter and a body: `M`, `O`, `T`, `F` or `P`, and then fields with nothing
 -- between or after them. Each field is one digit, but for the sign and the amount of `M`. Assumes nothing.
 use Rattle.std.specs.Prelude.{◌≡◌, ℕ, ◌+◌, ◌-◌, ◌*◌, ◌<◌, Bool, true, false, cond, ◌&&◌, ◌||◌, List, length, drop, ℤ, pos, neg_ℤ, Some, None, Option, MatchOption, ◌==◌, nat_le, nat_lt, slice_index}
 use Rattle.script.specs.declared.commands.Command.{Command}
-use Rattle.script.specs.declared.commands.Command.TheVariants.{Move, Offer, Figure, OpenItem}
+use Rattle.script.specs.declared.commands.Command.TheVariants.{Move, Offer, Take, Figure, OpenItem}
 
 -- the byte at a place, counted from 0
 abbrev pub place : List ℕ → ℕ → ℕ
@@ -55,6 +55,13 @@ is_offer body = length body == 4 && (is_site (place body 0) && (is_digit (place 
 abbrev pub offer_of : List ℕ → Option Command
 offer_of body = cond (is_offer body) (Some (Offer (value (place body 0)) (value (place body 1)) (value (place body 2)) (value (place body 3)))) None
 
+-- site, slot
+abbrev pub is_take : List ℕ → Bool
+is_take body = length body == 2 && (is_site (place body 0) && is_digit (place body 1))
+
+abbrev pub take_of : List ℕ → Option Command
+take_of body = cond (is_take body) (Some (Take (value (place body 0)) (value (place body 1)))) None
+
 -- site, article
 abbrev pub is_figure : List ℕ → Bool
 is_figure body = length body == 2 && (is_site (place body 0) && is_digit (place body 1))
@@ -71,7 +78,7 @@ open_item_of body = cond (is_open_item body) (Some (OpenItem (value (place body 
 
 abbrev pub command_of : ℕ → List ℕ → Option Command
 command_of letter body =
-    cond (letter == 77) (move_of body) (cond (letter == 79) (offer_of body) (cond (letter == 70) (figure_of body) (cond (letter == 80) (open_item_of body) None)))
+    cond (letter == 77) (move_of body) (cond (letter == 79) (offer_of body) (cond (letter == 84) (take_of body) (cond (letter == 70) (figure_of body) (cond (letter == 80) (open_item_of body) None))))
 
 -- the command that a line writes; none where it has no known form, as a line of no bytes
 abbrev pub command : List ℕ → Option Command
@@ -81,6 +88,7 @@ command line = command_of (place line 0) (drop 1 line)
 abbrev pub site_of : Command → ℕ
 site_of (Move site article amount slot) = site
 site_of (Offer site peer article slot) = site
+site_of (Take site slot) = site
 site_of (Figure site article) = site
 site_of (OpenItem site peer article) = site
 
@@ -88,6 +96,7 @@ site_of (OpenItem site peer article) = site
 abbrev pub Placed : Command → Type 0
 Placed (Move site article amount slot) = (site < 3) × (slot < 10)
 Placed (Offer site peer article slot) = (site < 3) × (slot < 10)
+Placed (Take site slot) = (site < 3) × (slot < 10)
 Placed (Figure site article) = site < 3
 Placed (OpenItem site peer article) = site < 3
 

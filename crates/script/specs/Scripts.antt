@@ -1,7 +1,7 @@
 -- What a whole script does and prints. Assumes nothing.
 use Rattle.std.specs.Prelude.{◌≡◌, ℕ, cond, List, [], ◌∷◌, ◌++◌, take, Ok, Err, Result, ◌==◌}
 use Rattle.std.specs.declared.alloc.AllocError.{AllocError}
-use Rattle.script.specs.Desk.{DeskView, Line, ran}
+use Rattle.script.specs.Desk.{DeskView, Runs}
 
 -- a byte before the first of the lines; a line of its own where there is none
 abbrev pub before : ℕ → List (List ℕ) → List (List ℕ)
@@ -17,13 +17,13 @@ lines (b ∷ bytes) = cond (b == 10) ([] ∷ lines bytes) (before b (lines bytes
 abbrev pub script : List ℕ → List (List ℕ)
 script input = lines (take 32768 input)
 
--- one line after another: what they leave, and all that they print
-abbrev pub ran_all : DeskView → List (List ℕ) → Line
-ran_all d [] = record { desk = d; bytes = [] }
-ran_all d (line ∷ lines) = record { desk = (ran_all (ran d line).desk lines).desk; bytes = (ran d line).bytes ++ (ran_all (ran d line).desk lines).bytes }
+-- one line after another, the desk that they leave and all that they print
+abbrev pub RunsAll : DeskView → List (List ℕ) → DeskView → List ℕ → Type 0
+RunsAll d [] after bytes = (after ≡ d) × (bytes ≡ [])
+RunsAll d (line ∷ lines) after bytes = (between : DeskView) × (sheet : List ℕ) × (rest : List ℕ) × Runs d line between sheet × RunsAll between lines after rest × (bytes ≡ sheet ++ rest)
 
 -- all lines are run and printed; or some are, and one more is run, for whose bytes there is no memory
 abbrev pub Scripted : DeskView → List ℕ → List ℕ → Result Unit AllocError → DeskView → List ℕ → Type 0
-Scripted d input out (Ok _) after grown = (after ≡ (ran_all d (script input)).desk) × (grown ≡ out ++ (ran_all d (script input)).bytes)
+Scripted d input out (Ok _) after grown = (sheet : List ℕ) × RunsAll d (script input) after sheet × (grown ≡ out ++ sheet)
 Scripted d input out (Err _) after grown =
-    (done : List (List ℕ)) × (line : List ℕ) × (later : List (List ℕ)) × (script input ≡ done ++ (line ∷ later)) × (after ≡ (ran_all d (done ++ (line ∷ []))).desk) × (grown ≡ out ++ (ran_all d done).bytes)
+    (done : List (List ℕ)) × (line : List ℕ) × (later : List (List ℕ)) × (script input ≡ done ++ (line ∷ later)) × (between : DeskView) × (sheet : List ℕ) × (lost : List ℕ) × RunsAll d done between sheet × Runs between line after lost × (grown ≡ out ++ sheet)

@@ -1,7 +1,7 @@
 -- What is printed for a line. Assumes nothing.
 use Rattle.std.specs.Prelude.{ℕ, cond, List, [], ◌∷◌, ◌++◌, Ok, Err, codes, decimal}
 use Rattle.std.specs.Fmt.{signed_decimal}
-use Rattle.script.specs.declared.answers.Answer.TheVariants.{Time, Length, Figure, IsOpen}
+use Rattle.script.specs.declared.answers.Answer.TheVariants.{Time, Length, Taken, Figure, IsOpen}
 use Rattle.script.specs.declared.sheets.SheetLine.{SheetLine}
 use Rattle.script.specs.Acts.{Reply}
 
@@ -13,6 +13,7 @@ sheet_bytes s = s.text.bytes
 abbrev pub answer_bytes : Reply → List ℕ
 answer_bytes (Ok (Time t)) = 32 ∷ decimal t
 answer_bytes (Ok (Length n)) = 32 ∷ decimal n
+answer_bytes (Ok (Taken n)) = 32 ∷ decimal n
 answer_bytes (Ok (Figure z)) = 32 ∷ signed_decimal z
 answer_bytes (Ok (IsOpen b)) = 32 ∷ decimal (cond b 1 0)
 answer_bytes (Err n) = codes " refused " ++ decimal n

@@ -1,5 +1,5 @@
 // What each command does at one site.
-ghost use Rattle.script.specs.Acts.{Moved, Offered};
+ghost use Rattle.script.specs.Acts.{Moved, Offered, TookSlot, answered};
 
 use crate::answers::Answer;
 use crate::faults::LineFault;
@@ -53,4 +53,11 @@ pub(crate) fn offer_article(
     let length = table.offer(peer, article, &mut buffer)?;
     slot.keep(&buffer[..length]);
     Ok(Answer::Length(length))
+}
+
+// Takes the message in the slot, and answers how many of its actions were new. The slot keeps its message.
+pub(crate) fn take_slot(table: &mut Table<OnHand, Shelf>, slot: &Slot) -> Result<Answer, LineFault>
+    ensures { TookSlot table.old slot.now (answered result) table.new }
+{
+    Ok(Answer::Taken(table.take(slot.message())?))
 }

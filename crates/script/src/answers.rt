@@ -5,6 +5,8 @@ pub enum Answer {
     Time(u32),
     // How long an offer is.
     Length(usize),
+    // How many actions of a message were new.
+    Taken(usize),
     Figure(i64),
     // Is there an open item?
     IsOpen(bool),

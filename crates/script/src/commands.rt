@@ -18,6 +18,10 @@ pub enum Command {
         article: u8,
         slot: u8,
     },
+    Take {
+        site: u8,
+        slot: u8,
+    },
     Figure {
         site: u8,
         article: u8,
@@ -37,6 +41,7 @@ impl Command {
         match self {
             Command::Move { .. } => 'M',
             Command::Offer { .. } => 'O',
+            Command::Take { .. } => 'T',
             Command::Figure { .. } => 'F',
             Command::OpenItem { .. } => 'P',
         }
@@ -48,6 +53,7 @@ impl Command {
         match *self {
             Command::Move { site, .. }
             | Command::Offer { site, .. }
+            | Command::Take { site, .. }
             | Command::Figure { site, .. }
             | Command::OpenItem { site, .. } => site,
         }

@@ -60,6 +60,10 @@ pub fn parse(line: &[u8]) -> Option<Command>
             article: digit_below(10, *article)?,
             slot: digit_below(10, *slot)?,
         }),
+        [b'T', site, slot] => Some(Command::Take {
+            site: digit_below(SITES, *site)?,
+            slot: digit_below(10, *slot)?,
+        }),
         [b'F', site, article] => Some(Command::Figure {
             site: digit_below(SITES, *site)?,
             article: digit_below(10, *article)?,

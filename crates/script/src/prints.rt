@@ -14,6 +14,7 @@ pub(crate) fn print(letter: char, outcome: Result<Answer, LineFault>) -> SheetLi
     match outcome {
         Ok(Answer::Time(time)) => SheetLine::new(letter, " ", time),
         Ok(Answer::Length(length)) => SheetLine::new(letter, " ", length),
+        Ok(Answer::Taken(count)) => SheetLine::new(letter, " ", count),
         Ok(Answer::Figure(figure)) => SheetLine::new(letter, " ", figure),
         Ok(Answer::IsOpen(is_open)) => SheetLine::new(letter, " ", u8::from(is_open)),
         Err(fault) => SheetLine::new(letter, " refused ", fault.number()),

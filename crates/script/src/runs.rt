@@ -1,9 +1,9 @@
 ghost use Rattle.std.specs.Prelude.{◌≡◌, ◌<◌};
-ghost use Rattle.script.specs.Desk.{Acted, ActedAt, ran};
+ghost use Rattle.script.specs.Desk.{Acted, ActedAt, Runs};
 ghost use Rattle.script.specs.Lines.{Placed};
 ghost use Rattle.script.specs.Sheets.{sheet_bytes};
 
-use crate::acts::{move_stock, offer_article};
+use crate::acts::{move_stock, offer_article, take_slot};
 use crate::answers::Answer;
 use crate::commands::Command;
 use crate::desks::Desk;
@@ -38,6 +38,7 @@ fn act_at(
             slot,
             ..
         } => offer_article(table, peer, article, &mut slots[usize::from(slot)]),
+        Command::Take { slot, .. } => take_slot(table, &slots[usize::from(slot)]),
         Command::Figure { article, .. } => Ok(Answer::Figure(table.figure(article)?)),
         Command::OpenItem { peer, article, .. } => {
             Ok(Answer::IsOpen(table.open_item(article, peer)?))
@@ -56,8 +57,7 @@ impl Desk {
 
     // Runs one line, without the byte that ends it, and answers what is printed for it.
     pub fn run(&mut self, line: &[u8]) -> SheetLine
-        ensures desk { self.new ≡ (ran self.old line.now).desk }
-        ensures bytes { sheet_bytes result ≡ (ran self.old line.now).bytes }
+        ensures { Runs self.old line.now self.new (sheet_bytes result) }
     {
         match parse(line) {
             Some(command) => {

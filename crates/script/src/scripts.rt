@@ -50,7 +50,6 @@ impl<'a> Iterator for Lines<'a> {
 }
 
 // Runs the lines of a script on the desk, and appends what they print.
-#[tactic(auto, using(crate::proofs::Lined::ran_more))]
 pub fn run_script(desk: &mut Desk, input: &[u8], out: &mut Vec<u8>) -> Result<(), AllocError>
     ensures { Scripted desk.old input.now out.old.items result desk.new out.new.items }
 {

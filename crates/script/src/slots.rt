@@ -20,6 +20,13 @@ impl Model for Slot {
 }
 
 impl Slot {
+    // The message, or no bytes where the slot holds nothing.
+    pub(crate) fn message(&self) -> &[u8]
+        ensures { result.now ≡ self.now }
+    {
+        self.message.as_slice()
+    }
+
     // Keeps the message in place of what the slot held.
     pub(crate) fn keep(&mut self, message: &[u8])
         requires { length message.now ≤ 1200 }

@@ -1,9 +1,8 @@
-use Rattle.std.proofs.Common.{get_or, sym, ap, ◌∙◌, arith, subst, w32, SFits, rules}
+use Rattle.std.proofs.Common.{get_or, ap, ◌∙◌, arith, subst, w32, SFits, rules}
 use Rattle.std.proofs.lemmas.Int.{to_z-of_z}
 use Rattle.script.specs.Acts.{answered, moved, offered}
-use Rattle.script.specs.Desk.{acted_at}
 use Rattle.script.specs.Lines.{Placed}
-use Rattle.script.proofs.Turns.{settled_in}
+use Rattle.script.proofs.Turns.{as_named, settled_in}
 use Rattle.script.proofs.runs.act_at.Goals as goal
 
 pub returns-in-Move : goal.returns-in-Move
@@ -14,7 +13,8 @@ returns-in-Move c =
     let none = c.index-slots-from.result in
     let fits : SFits w32 m.amount = search rules in
     let placed = subst Placed m.is c.requires in
-    settled_in slots m.slot c.from.result none c.move_stock.new.slot (moved v m.article m.amount) _ (answered c.move_stock.result) c.from.ensures (omega (arith, placed)) (c.move_stock.ensures ∙ ap (λ z. moved v m.article z (get_or slots c.from.result none)) (to_z-of_z w32 m.amount fits)) ∙ ap (acted_at v slots) (sym m.is)
+    let settled = settled_in slots m.slot c.from.result none c.move_stock.new.slot (moved v m.article m.amount) _ (answered c.move_stock.result) c.from.ensures (omega (arith, placed)) (c.move_stock.ensures ∙ ap (λ z. moved v m.article z (get_or slots c.from.result none)) (to_z-of_z w32 m.amount fits)) in
+    as_named v slots _ _ _ m.is settled
 
 pub returns-in-Offer : goal.returns-in-Offer
 returns-in-Offer c =
@@ -22,4 +22,5 @@ returns-in-Offer c =
     let slots = c.args.slots.now in
     let m = c.in-Offer in
     let placed = subst Placed m.is c.requires in
-    settled_in slots m.slot c.from-in-Offer.result c.index-slots-from-in-Offer.result c.offer_article.new.slot (offered v m.peer m.article) v (answered c.offer_article.result) c.from-in-Offer.ensures (omega (arith, placed)) c.offer_article.ensures ∙ ap (acted_at v slots) (sym m.is)
+    let settled = settled_in slots m.slot c.from-in-Offer.result c.index-slots-from-in-Offer.result c.offer_article.new.slot (offered v m.peer m.article) v (answered c.offer_article.result) c.from-in-Offer.ensures (omega (arith, placed)) c.offer_article.ensures in
+    as_named v slots _ _ _ m.is settled
