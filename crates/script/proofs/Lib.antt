@@ -1,3 +1,8 @@
+mod Further
 mod Held
 mod Lined
+mod Made
+mod Ranges
+mod Refused
+mod Standing
 mod Turns

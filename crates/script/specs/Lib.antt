@@ -5,3 +5,4 @@ pub mod Lines
 pub mod Scripts
 pub mod Sheets
 pub mod Slots
+pub mod Standing

@@ -1,5 +1,6 @@
 ghost use Rattle.std.specs.Prelude.{◌≡◌, ◌<◌, [], replicate, IfOk};
 ghost use Rattle.script.specs.Desk.{FreshDesk};
+ghost use Rattle.script.specs.Standing.{NewStands};
 
 use crate::desks::Desk;
 use crate::slots::Slot;
@@ -31,8 +32,17 @@ fn empty_slots() -> [Slot; 10]
 }
 
 impl Desk {
-    // A desk of three sites on which nothing has moved yet, and ten empty slots.
+    // A desk of three sites on which nothing has moved yet, and ten empty slots. It stands at the end of
+    // a run of no lines.
     pub fn new(heap: Global) -> Result<Desk, AllocError>
+        ensures fresh { IfOk result (λ desk. FreshDesk desk) }
+        ensures stands { IfOk result (λ desk. NewStands desk) }
+    {
+        Desk::make(heap)
+    }
+
+    // What `new` makes. That it stands at the end of a run follows from this clause.
+    fn make(heap: Global) -> Result<Desk, AllocError>
         ensures { IfOk result (λ desk. FreshDesk desk) }
     {
         let first = Either::Left(Rack::new(heap, PLACES)?);

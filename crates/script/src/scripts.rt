@@ -1,6 +1,7 @@
 ghost use Rattle.std.specs.Prelude.{◌≡◌, ◌<◌, ◌==◌, ◌∷◌, length};
 ghost use Rattle.std.specs.Iterator.{YieldsFirstRef, item_count};
 ghost use Rattle.script.specs.Scripts.{Scripted, lines};
+ghost use Rattle.script.specs.Standing.{ScriptStands};
 
 use crate::desks::Desk;
 use std::alloc::AllocError;
@@ -49,9 +50,11 @@ impl<'a> Iterator for Lines<'a> {
     }
 }
 
-// Runs the lines of a script on the desk, and appends what they print.
+// Runs the lines of a script on the desk, and appends what they print. A desk at the end of a run is at
+// the end of a longer one then, and each figure printed is what the run counts.
 pub fn run_script(desk: &mut Desk, input: &[u8], out: &mut Vec<u8>) -> Result<(), AllocError>
-    ensures { Scripted desk.old input.now out.old.items result desk.new out.new.items }
+    ensures does { Scripted desk.old input.now out.old.items result desk.new out.new.items }
+    ensures stands { ScriptStands desk.old input.now out.old.items result desk.new out.new.items }
 {
     let text = &input[..input.len().min(LONGEST_SCRIPT)];
     for line in (Lines { text }) {

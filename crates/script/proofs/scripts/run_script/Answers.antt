@@ -1,9 +1,10 @@
-use Rattle.std.proofs.Common.{◌≡◌, [], ◌∷◌, ◌++◌, map, sym, refl, ap, ◌∙◌, subst}
+use Rattle.std.proofs.Common.{◌≡◌, [], ◌∷◌, ◌++◌, map, Ok, sym, refl, ap, ◌∙◌, subst}
 use Rattle.std.proofs.lemmas.List.{append_assoc, append-nil, map-append}
 use Rattle.std.proofs.lemmas.Result.{err_from_is_err_and}
-use Rattle.script.specs.Scripts.{RunsAll, Scripted, lines}
+use Rattle.script.specs.Scripts.{RunsAll, Scripted, lines, script}
 use Rattle.script.specs.Sheets.{sheet_bytes}
 use Rattle.script.proofs.Lined.{cut, runs_more}
+use Rattle.script.proofs.Standing.{script_stands}
 use Rattle.script.proofs.scripts.run_script.Goals as goal
 
 pub loop-line-init : goal.loop-line-init
@@ -27,16 +28,22 @@ loop-line-preserved c =
       whole = inv.whole ∙ ap (λ ls. done ++ ls) c.in-Some.ensures.steps ∙ sym (append_assoc done (line ∷ []) (lines c.next.new.self.text.now)) ∙ ap (λ ls. ls ++ lines c.next.new.self.text.now) (sym more);
       ran = (
         before ++ sheet,
-        subst (λ ls. RunsAll start ls after (before ++ sheet)) (sym more) (runs_more start c.loop-line.desk after done line before sheet inv.ran.1 c.run-sheet.ensures),
+        subst (λ ls. RunsAll start ls after (before ++ sheet)) (sym more) (runs_more start c.loop-line.desk after done line before sheet inv.ran.1 c.run-sheet.ensures.does),
         c.in_ok-extend_from_slice.ensures.items ∙ (λ i. inv.ran.2 i ++ c.as_slice.ensures i) ∙ append_assoc out before sheet,
       );
     }
 
 pub returns-in_err-extend_from_slice : goal.returns-in_err-extend_from_slice
 returns-in_err-extend_from_slice c =
+    let start = c.args.desk.now in
+    let input = c.args.input.now in
+    let out = c.args.out.now.items in
+    let after = c.run-sheet.new.self in
+    let grown = c.extend_from_slice.new.self.items in
     let inv = c.loop-line.invariant in
     let fault = err_from_is_err_and c.from_residual.result c.from_residual.ensures.1 in
-    subst (λ r. Scripted c.args.desk.now c.args.input.now c.args.out.now.items r c.run-sheet.new.self c.extend_from_slice.new.self.items) (sym fault.1) (
+    let does : Scripted start input out c.from_residual.result after grown =
+    subst (λ r. Scripted start input out r after grown) (sym fault.1) (
       map (λ b. b.now) c.loop-line.yielded,
       c.in-Some.line.now,
       lines c.next.new.self.text.now,
@@ -45,6 +52,21 @@ returns-in_err-extend_from_slice c =
       inv.ran.0,
       sheet_bytes c.run-sheet.result,
       inv.ran.1,
-      c.run-sheet.ensures,
+      c.run-sheet.ensures.does,
       c.in_err-extend_from_slice.ensures.items ∙ inv.ran.2,
     )
+    in
+    record { does = does; stands = script_stands start input out c.from_residual.result after grown does }
+
+pub returns : goal.returns
+returns c =
+    let start = c.args.desk.now in
+    let input = c.args.input.now in
+    let out = c.args.out.now.items in
+    let after = c.loop-line.desk in
+    let grown = c.loop-line.out.items in
+    let inv = c.loop-line.invariant in
+    let done = map (λ b. b.now) c.loop-line.yielded in
+    let all : script input ≡ done = inv.whole ∙ ap (λ ls. done ++ ls) c.in-None.ensures.steps.0 ∙ append-nil done in
+    let does : Scripted start input out (Ok tt) after grown = (inv.ran.0, subst (λ ls. RunsAll start ls after inv.ran.0) (sym all) inv.ran.1, inv.ran.2) in
+    record { does = does; stands = script_stands start input out (Ok tt) after grown does }

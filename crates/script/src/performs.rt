@@ -2,6 +2,7 @@ ghost use Rattle.std.specs.Prelude.{◌≡◌, ◌<◌};
 ghost use Rattle.script.specs.Desk.{Acted, ActedAt, Runs};
 ghost use Rattle.script.specs.Lines.{Placed};
 ghost use Rattle.script.specs.Sheets.{sheet_bytes};
+ghost use Rattle.script.specs.Standing.{LineStands};
 
 use crate::acts::{move_stock, offer_article, take_slot};
 use crate::answers::Answer;
@@ -55,8 +56,17 @@ impl Desk {
         act_at(table, &mut self.slots, command)
     }
 
-    // Runs one line, without the byte that ends it, and answers what is printed for it.
+    // Runs one line, without the byte that ends it, and answers what is printed for it. A desk at the end of
+    // a run is then at the end of a longer one.
     pub fn run(&mut self, line: &[u8]) -> SheetLine
+        ensures does { Runs self.old line.now self.new (sheet_bytes result) }
+        ensures stands { LineStands self.old line.now self.new (sheet_bytes result) }
+    {
+        self.run_line(line)
+    }
+
+    // What `run` does. What it means for a run follows from this clause.
+    fn run_line(&mut self, line: &[u8]) -> SheetLine
         ensures { Runs self.old line.now self.new (sheet_bytes result) }
     {
         match parse(line) {

@@ -3,7 +3,7 @@ use Rattle.std.proofs.lemmas.Int.{to_z-of_z}
 use Rattle.script.specs.Acts.{answered, moved, offered}
 use Rattle.script.specs.Lines.{Placed}
 use Rattle.script.proofs.Turns.{as_named, settled_in}
-use Rattle.script.proofs.runs.act_at.Goals as goal
+use Rattle.script.proofs.performs.act_at.Goals as goal
 
 pub returns-in-Move : goal.returns-in-Move
 returns-in-Move c =

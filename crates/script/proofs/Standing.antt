@@ -1,0 +1,167 @@
+-- A desk that stands at the end of a run stands at the end of a longer one after each command, line and script;
+-- and a new desk stands at the end of a run of no lines.
+use Rattle.std.proofs.Common.{◌≡◌, ℕ, zero, suc, ◌<◌, Bool, true, false, cond, ltb, List, [], ◌∷◌, ◌++◌, get_or, set, replicate, ℤ, IfSome, Some, None, Ok, Err, Option, Result, sym, refl, ap, ◌∙◌, subst, arith, w64, SFits, rules}
+use Rattle.std.specs.List.{AllByRecursion}
+use Rattle.std.specs.declared.alloc.AllocError.{AllocError}
+use Rattle.std.proofs.lemmas.Bool.{ltb-true}
+use Rattle.action.specs.declared.setups.Setup.{Setup}
+use Rattle.action.specs.Lawful.{by_table, unless}
+use Rattle.kind.specs.Meanings.{on_hand}
+use Rattle.kind.specs.OnHandLaws.{on_hand_commutes, on_hand_fits}
+use Rattle.table.specs.Answers.{figure}
+use Rattle.table.specs.View.{View, fresh}
+use Rattle.runs.specs.Laws.{Counted, EveryRun}
+use Rattle.runs.specs.Lines.{Line}
+use Rattle.runs.specs.Lines.Call.{Takes}
+use Rattle.runs.specs.Runs.{OfPage, Page}
+use Rattle.runs.proofs.Laws.{every_counted, run_stands}
+use Rattle.runs.proofs.Standing.{Standing}
+use Rattle.script.specs.declared.answers.Answer.TheVariants as Answers
+use Rattle.script.specs.declared.commands.Command.{Command}
+use Rattle.script.specs.declared.commands.Command.TheVariants.{Move, Offer, Take, Figure, OpenItem}
+use Rattle.script.specs.Acts.{Outcome, Reply, decided, figured, flagged, refuse}
+use Rattle.script.specs.Desk.{Acts, DeskView, FreshDesk, FreshSite, Runs, RunsCommand, SiteTurn, settled, table_at, with_slots, with_table}
+use Rattle.script.specs.Lines.{command}
+use Rattle.script.specs.Scripts.{RunsAll, Scripted}
+use Rattle.script.specs.Standing.{AfterRun, Kept, LineStands, Makes, NewStands, PlaysAll, PlaysCommand, ScriptStands, at, counted_figure}
+use Rattle.script.specs.Standing.Makes.{takes, figures, flags}
+use Rattle.script.proofs.Further.{kept_at, slots_kept, slots_stay, stands_further}
+use Rattle.script.proofs.Made.{Goes, move_goes, offer_goes, take_ran}
+use Rattle.script.proofs.Ranges.{Ranged, command_ranged}
+
+-- THE LAWS AT ON HAND
+
+starts_fit : SFits w64 on_hand.starts
+starts_fit = record { sfits = omega arith }
+
+commute : (f : ℤ) (o : ℕ) (a : ℤ) (p : ℕ) (b : ℤ) → SFits w64 f → on_hand.commutes ≡ true → on_hand.knows o a ≡ true → on_hand.knows p b ≡ true → on_hand.steps (on_hand.steps f o a) p b ≡ on_hand.steps (on_hand.steps f p b) o a
+commute f o a p b fits commutes x y = on_hand_commutes f o a p b x y
+
+on_hand_stands : EveryRun on_hand (Standing on_hand)
+on_hand_stands = run_stands on_hand (omega arith) starts_fit on_hand_fits commute
+
+on_hand_counted : Counted on_hand
+on_hand_counted = every_counted on_hand (omega arith) starts_fit on_hand_fits commute
+
+-- ONE COMMAND
+
+as_it_was : (d : DeskView) (site : ℕ) → d ≡ with_slots (with_table d site (table_at d site)) d.slots
+as_it_was d zero = refl
+as_it_was d (suc zero) = refl
+as_it_was d (suc (suc n)) = refl
+
+-- a figure, or refused by 4
+figure_or_four : (known : Bool) (z y : ℤ) → (known ≡ true → z ≡ y) → decided (unless known (by_table 4 0) None) refuse (Ok (Answers.Figure z)) ≡ cond known (Ok (Answers.Figure y)) (Err 4)
+figure_or_four true z y same = ap (λ f. Ok (Answers.Figure f)) (same refl)
+figure_or_four false z y same = refl
+
+module _ (page : Page) (run : List Line) (d : DeskView) (stood : AfterRun page run d) where
+  -- after a command: the calls that it made, and the desk at the end of the longer run
+  abbrev Goes_on : Command → Reply → DeskView → Type 0
+  Goes_on c a after = (calls : List Line) × Makes page run c a calls × AfterRun page (calls ++ run) after
+
+  module _ (site : ℕ) (acts : site < 3) where
+    -- the desk with the site's table and the slots that are there now
+    abbrev now : DeskView → DeskView
+    now after = with_slots (with_table d site (table_at after site)) after.slots
+
+    -- what is left of the site's table and of the slots, and what was answered
+    abbrev turn : DeskView → Reply → SiteTurn
+    turn after a = record { table = table_at after site; slots = after.slots; answer = a }
+
+    -- a command that writes into a slot
+    writes : (c : Command) (slot : ℕ) (o : Outcome) (a : Reply) (after : DeskView) → Goes page stood.sites_are run d stood.ran site acts c o → turn after a ≡ settled d.slots slot o → after ≡ now after → Goes_on c a after
+    writes c slot o a after goes is others =
+        let calls = goes.0 in
+        let left : after ≡ with_slots (with_table d site o.table) (set d.slots slot o.slot) = others ∙ (λ i. with_slots (with_table d site (is i).table) (is i).slots) in
+        (calls, subst (λ b. Makes page run c b calls) (sym (λ i. (is i).answer)) goes.1, subst (AfterRun page (calls ++ run)) (sym left) (stands_further page run d stood calls site o.table (set d.slots slot o.slot) goes.2 (slots_kept page run d stood calls slot o.slot goes.3)))
+
+    -- a command that changes nothing
+    leaves : (c : Command) (a b : Reply) (after : DeskView) → Makes page run c b [] → turn after a ≡ turn d b → after ≡ now after → Goes_on c a after
+    leaves c a b after made is others =
+        let same : after ≡ d = others ∙ (λ i. with_slots (with_table d site (is i).table) (is i).slots) ∙ sym (as_it_was d site) in
+        ([], subst (λ r. Makes page run c r []) (sym (λ i. (is i).answer)) made, subst (AfterRun page run) (sym same) stood)
+
+    -- the site has four articles, and its figures are those that the run counts
+    counts : (article : ℕ) → figured (table_at d site) article ≡ counted_figure page run site article
+    counts article =
+        let inside : site < page.sites = omega (arith, stood.sites_are) in
+        let four : (table_at d site).setup.articles ≡ 4 = ap (λ (s : Setup). s.articles) ((on_hand_stands page run (table_at d) stood.ran).sites site inside).setup_is ∙ (page.of_page site inside).articles_are ∙ stood.articles_are in
+        let law = on_hand_counted page run (table_at d) stood.ran in
+        ap (λ n. decided (unless (ltb article n) (by_table 4 0) None) refuse (Ok (Answers.Figure (figure (table_at d site) article)))) four ∙ figure_or_four (ltb article 4) _ _ (λ known. law.figured site article inside (omega (arith, ltb-true article 4 known, stood.articles_are)))
+
+  command_goes_on : (c : Command) (a : Reply) (after : DeskView) → Ranged c → Acts d c a after → Goes_on c a after
+  command_goes_on (Move site article amount slot) a after ranged is =
+      let kept = kept_at run d.slots slot stood.slots in
+      writes site ranged.0 (Move site article amount slot) slot _ a after (move_goes page stood.sites_are run d stood.ran site ranged.0 article amount slot ranged.1 (get_or d.slots slot []) kept) is.0 is.1
+  command_goes_on (Offer site peer article slot) a after ranged is =
+      let kept = kept_at run d.slots slot stood.slots in
+      writes site ranged (Offer site peer article slot) slot _ a after (offer_goes page stood.sites_are run d stood.ran site ranged peer article slot (get_or d.slots slot []) kept) is.0 is.1
+  command_goes_on (Take site slot) a after ranged (((r, took, told), stay), others) =
+      let bytes = get_or d.slots slot [] in
+      let calls : List Line = at site (Takes bytes r) ∷ [] in
+      let w = table_at after site in
+      let left : after ≡ with_slots (with_table d site w) d.slots = others ∙ ap (with_slots (with_table d site w)) stay in
+      let kept = kept_at run d.slots slot stood.slots in
+      (calls, subst (λ b. Makes page run (Take site slot) b calls) (sym told) (takes site slot bytes r), subst (AfterRun page (calls ++ run)) (sym left) (stands_further page run d stood calls site w d.slots (take_ran page stood.sites_are run d stood.ran site ranged bytes r w kept took) (slots_stay page run d stood calls)))
+  command_goes_on (Figure site article) a after ranged is =
+      leaves site ranged (Figure site article) a (figured (table_at d site) article) after (subst (λ b. Makes page run (Figure site article) b []) (sym (counts site ranged article)) (figures site article)) is.0 is.1
+  command_goes_on (OpenItem site peer article) a after ranged is = leaves site ranged (OpenItem site peer article) a (flagged (table_at d site) peer article) after (flags site peer article _) is.0 is.1
+
+-- ONE LINE, AND ONE AFTER ANOTHER
+
+pub line_stands : (d : DeskView) (line : List ℕ) (after : DeskView) (bytes : List ℕ) → Runs d line after bytes → LineStands d line after bytes
+line_stands d line after bytes runs page run stood = by_command (command line) (command_ranged line) runs
+  where
+    by_command : (o : Option Command) → IfSome o Ranged → RunsCommand d o after bytes → (calls : List Line) × PlaysCommand page run o calls bytes × AfterRun page (calls ++ run) after
+    by_command None ranged is = ([], (refl, is.1), subst (AfterRun page run) (sym is.0) stood)
+    by_command (Some c) ranged is =
+        let goes = command_goes_on page run d stood c is.0 after ranged is.1 in
+        (goes.0, (is.0, goes.1, is.2), goes.2)
+
+lines_stand : (page : Page) (run : List Line) (d : DeskView) (lines : List (List ℕ)) (after : DeskView) (bytes : List ℕ) → RunsAll d lines after bytes → AfterRun page run d → (later : List Line) × PlaysAll page run lines later bytes × AfterRun page later after
+lines_stand page run d [] after bytes is stood = (run, (refl, is.1), subst (AfterRun page run) (sym is.0) stood)
+lines_stand page run d (line ∷ lines) after bytes (between, sheet, rest, first, others, is) stood =
+    let one = line_stands d line between sheet first page run stood in
+    let all = lines_stand page (one.0 ++ run) between lines after rest others one.2 in
+    (all.0, (one.0, sheet, rest, one.1, all.1, is), all.2)
+
+pub script_stands : (d : DeskView) (input out : List ℕ) (r : Result Unit AllocError) (after : DeskView) (grown : List ℕ) → Scripted d input out r after grown → ScriptStands d input out r after grown
+script_stands d input out (Ok _) after grown (sheet, all, is) page run stood =
+    let stands = lines_stand page run d _ after sheet all stood in
+    (stands.0, sheet, stands.1, stands.2, is)
+script_stands d input out (Err _) after grown (done, line, rest, split, between, sheet, lost, all, last, is) page run stood =
+    let stands = lines_stand page run d done between sheet all stood in
+    let one = line_stands between line after lost last page stands.0 stands.2 in
+    (done, line, rest, split, stands.0, sheet, stands.1, one.0, lost, one.1, one.2, is)
+
+-- A NEW DESK
+
+of_site : (s : ℕ) (v : View) → FreshSite s v → OfPage 1 3 4 s v.setup
+of_site s v new = record { group_is = new.group; sites_are = new.sites; articles_are = new.articles; own_is = new.own }
+
+fresh_setup : (d : DeskView) → FreshDesk d → (s : ℕ) → s < 3 → OfPage 1 3 4 s (table_at d s).setup
+fresh_setup d new zero inside = of_site 0 d.first new.first
+fresh_setup d new (suc zero) inside = of_site 1 d.second new.second
+fresh_setup d new (suc (suc n)) inside =
+    let last : 2 ≡ suc (suc n) = omega arith in
+    subst (λ s. OfPage 1 3 4 s d.third.setup) last (of_site 2 d.third new.third)
+
+fresh_table : (d : DeskView) → FreshDesk d → (s : ℕ) → table_at d s ≡ fresh on_hand (table_at d s).setup 64
+fresh_table d new zero = new.first.new
+fresh_table d new (suc zero) = new.second.new
+fresh_table d new (suc (suc n)) = new.third.new
+
+pub new_stands : (d : DeskView) → FreshDesk d → NewStands d
+new_stands d new =
+    let page : Page = record {
+      group = 1;
+      sites = 3;
+      articles = 4;
+      setup = λ s. (table_at d s).setup;
+      capacity = λ s. 64;
+      of_page = fresh_setup d new;
+      few_places = λ s inside. omega arith;
+    } in
+    let none : AllByRecursion (Kept []) (replicate 10 []) = search rules in
+    (page, record { group_is = refl; sites_are = refl; articles_are = refl; ran = λ s inside. fresh_table d new s; slots = subst (AllByRecursion (Kept [])) (sym new.slots) none })

@@ -1,0 +1,99 @@
+-- A script as part of a run of the three tables: which calls its lines make, and that its figures are those that
+-- the run counts. Assumes nothing.
+use Rattle.std.specs.Prelude.{◌≡◌, ℕ, cond, ◌⊎◌, List, [], ◌∷◌, ◌++◌, map, ℤ, Some, None, Ok, Err, Option, Result, nat_lt}
+use Rattle.std.specs.List.{ContainsAt as Has, AllByRecursion}
+use Rattle.std.specs.declared.alloc.AllocError.{AllocError}
+use Rattle.kind.specs.Meanings.{on_hand}
+use Rattle.table.specs.declared.faults.TableFault.{TableFault}
+use Rattle.table.specs.declared.tickets.Ticket.{Ticket}
+use Rattle.table.specs.Faults.{shown}
+use Rattle.runs.specs.Books.{book, counted}
+use Rattle.runs.specs.Lines.{Call, Line, wrote}
+use Rattle.runs.specs.Lines.Call.{Opens, Writes, Commits, Abandons, Offers, Takes}
+use Rattle.runs.specs.Runs.{Page, Ran}
+use Rattle.script.specs.declared.answers.Answer.TheVariants as Answers
+use Rattle.script.specs.declared.commands.Command.{Command}
+use Rattle.script.specs.declared.commands.Command.TheVariants.{Move, Offer, Take, Figure, OpenItem}
+use Rattle.script.specs.Acts.{Reply, newly, refuse}
+use Rattle.script.specs.Desk.{DeskView, letter, table_at}
+use Rattle.script.specs.Lines.{command}
+use Rattle.script.specs.Scripts.{script}
+use Rattle.script.specs.Sheets.{printed}
+
+-- THE DESK
+
+-- nothing, or what one of these lines wrote
+abbrev pub Kept : List Line → List ℕ → Type 0
+Kept run bytes = (bytes ≡ []) ⊎ Has (map (λ line. wrote line.call) run) bytes
+
+-- the desk stands at the end of this run: the lines, the latest first, led from new tables of three sites with four
+-- articles to the desk's, and each slot holds nothing or what one of them wrote
+pub record AfterRun (page : Page) (run : List Line) (d : DeskView) : Type 0 where
+  pub group_is : page.group ≡ 1
+  pub sites_are : page.sites ≡ 3
+  pub articles_are : page.articles ≡ 4
+  pub ran : Ran on_hand page run (table_at d)
+  pub slots : AllByRecursion (Kept run) d.slots
+
+-- THE LINES
+
+abbrev pub at : ℕ → Call → Line
+at site call = record { site = site; call = call }
+
+-- the article's figure by all movements of the run that the site has, each counted once; refused by 4 above article 3
+abbrev pub counted_figure : Page → List Line → ℕ → ℕ → Reply
+counted_figure page run site article = cond (nat_lt article 4) (Ok (Answers.Figure (counted on_hand (book page run) site article))) (Err 4)
+
+-- how long the offer is, or the refusal
+abbrev pub measured : Result ℕ TableFault → Reply
+measured (Ok n) = Ok (Answers.Length n)
+measured (Err e) = refuse (shown e)
+
+-- after this run a command makes these calls, the latest first, and answers this
+pub data Makes (page : Page) (run : List Line) : Command → Reply → List Line → Type 0 where
+  -- M: open, write and commit; where the write or the commit is refused the transaction is abandoned
+  moves : (site article slot : ℕ) (amount : ℤ) (t : Ticket) (time : ℕ) (buffer after : List ℕ) (n : ℕ × ℕ) → Makes page run (Move site article amount slot) (Ok (Answers.Time time)) (at site (Commits t buffer (Ok n) after) ∷ (at site (Writes t article 1 amount (Ok time)) ∷ (at site (Opens (Ok t)) ∷ [])))
+  commit_refused : (site article slot : ℕ) (amount : ℤ) (t : Ticket) (time : ℕ) (buffer : List ℕ) (e : TableFault) → Makes page run (Move site article amount slot) (refuse (shown e)) (at site (Abandons t (Ok tt)) ∷ (at site (Commits t buffer (Err (e, t)) buffer) ∷ (at site (Writes t article 1 amount (Ok time)) ∷ (at site (Opens (Ok t)) ∷ []))))
+  write_refused : (site article slot : ℕ) (amount : ℤ) (t : Ticket) (e : TableFault) → Makes page run (Move site article amount slot) (refuse (shown e)) (at site (Abandons t (Ok tt)) ∷ (at site (Writes t article 1 amount (Err e)) ∷ (at site (Opens (Ok t)) ∷ [])))
+  open_refused : (site article slot : ℕ) (amount : ℤ) (e : TableFault) → Makes page run (Move site article amount slot) (refuse (shown e)) (at site (Opens (Err e)) ∷ [])
+  -- O and T
+  offers : (site peer article slot : ℕ) (buffer after : List ℕ) (r : Result ℕ TableFault) → Makes page run (Offer site peer article slot) (measured r) (at site (Offers peer article buffer r after) ∷ [])
+  takes : (site slot : ℕ) (bytes : List ℕ) (r : Result ℕ TableFault) → Makes page run (Take site slot) (newly r) (at site (Takes bytes r) ∷ [])
+  -- F and P change no table
+  figures : (site article : ℕ) → Makes page run (Figure site article) (counted_figure page run site article) []
+  flags : (site peer article : ℕ) (a : Reply) → Makes page run (OpenItem site peer article) a []
+
+-- a line makes these calls and prints this
+abbrev pub PlaysCommand : Page → List Line → Option Command → List Line → List ℕ → Type 0
+PlaysCommand page run None calls bytes = (calls ≡ []) × (bytes ≡ printed 63 (Err 18))
+PlaysCommand page run (Some c) calls bytes = (a : Reply) × Makes page run c a calls × (bytes ≡ printed (letter c) a)
+
+abbrev pub Plays : Page → List Line → List ℕ → List Line → List ℕ → Type 0
+Plays page run line calls bytes = PlaysCommand page run (command line) calls bytes
+
+-- one line after another: the run that they lead to, and all that they print
+abbrev pub PlaysAll : Page → List Line → List (List ℕ) → List Line → List ℕ → Type 0
+PlaysAll page run [] later bytes = (later ≡ run) × (bytes ≡ [])
+PlaysAll page run (line ∷ lines) later bytes =
+    (calls : List Line) × (sheet : List ℕ) × (rest : List ℕ) × Plays page run line calls sheet × PlaysAll page (calls ++ run) lines later rest × (bytes ≡ sheet ++ rest)
+
+-- EVERY SCRIPT
+
+-- the desk stands at the end of the longer run, and what is printed is what the run says
+abbrev pub Tallied : Page → List Line → List ℕ → List ℕ → Result Unit AllocError → DeskView → List ℕ → Type 0
+Tallied page run input out (Ok _) after grown =
+    (later : List Line) × (sheet : List ℕ) × PlaysAll page run (script input) later sheet × AfterRun page later after × (grown ≡ out ++ sheet)
+Tallied page run input out (Err _) after grown =
+    (done : List (List ℕ)) × (line : List ℕ) × (rest : List (List ℕ)) × (script input ≡ done ++ (line ∷ rest)) × (later : List Line) × (sheet : List ℕ) × PlaysAll page run done later sheet × (calls : List Line) × (lost : List ℕ) × Plays page later line calls lost × AfterRun page (calls ++ later) after × (grown ≡ out ++ sheet)
+
+-- a new desk stands at the end of a run of no lines
+abbrev pub NewStands : DeskView → Type 0
+NewStands d = (page : Page) × AfterRun page [] d
+
+-- wherever the desk stood before the line
+abbrev pub LineStands : DeskView → List ℕ → DeskView → List ℕ → Type 0
+LineStands d line after bytes = (page : Page) (run : List Line) → AfterRun page run d → (calls : List Line) × Plays page run line calls bytes × AfterRun page (calls ++ run) after
+
+-- wherever it stood before the script
+abbrev pub ScriptStands : DeskView → List ℕ → List ℕ → Result Unit AllocError → DeskView → List ℕ → Type 0
+ScriptStands d input out r after grown = (page : Page) (run : List Line) → AfterRun page run d → Tallied page run input out r after grown
