@@ -3,7 +3,8 @@ ghost use Rattle.script.specs.Desk.{letter};
 ghost use Rattle.script.specs.Lines.{site_of};
 
 // What a line asks of the desk: which site acts, and on what. A site, a peer, an article and a slot
-// are a digit each. Each form has its fields as its line writes them, also those that all forms have.
+// are a digit each. Each form has its fields as its line writes them, the site too: a struct of
+// a site and a form would be taken apart again by each match.
 #[derive(Clone, Copy, Debug, PartialEq, Eq)]
 pub enum Command {
     Move {

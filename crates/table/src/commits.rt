@@ -14,8 +14,8 @@ use history::History;
 use kind::Kind;
 use row::append;
 
-// Writes the transaction's message where there were writes and it fits, and answers its length, as the
-// call does: 0 where it wrote none.
+// Writes the transaction's message where there were writes and it fits, and answers its length: 0 where it
+// wrote none, and no `Option`, since the rules of a commit fix that answer.
 fn send<K: Kind>(state: &State, buffer: &mut [u8]) -> usize
     ensures length { result ≡ length (fitting (transaction_bytes K.means (bare state.now)) buffer.old) }
     ensures bytes { buffer.new ≡ overwritten buffer.old 0 (fitting (transaction_bytes K.means (bare state.now)) buffer.old) }

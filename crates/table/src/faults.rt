@@ -43,7 +43,7 @@ impl From<ReaderFault> for TableFault {
     }
 }
 
-// A refusal of a table by its number, which stands once, in the match below.
+// A refusal of a table by its number, which is what users and C are shown; each stands once, in the match below.
 fn by_table(number: u8, place: usize) -> Refusal
     ensures { result ≡ by_table number place }
 {

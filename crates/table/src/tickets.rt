@@ -2,7 +2,7 @@
 // cannot be let go: a commit or an abandon has to spend it.
 pub struct Ticket {
     pub(crate) group: u16,
-    // By its number, as messages have it.
+    // By its number, since anyone may add a kind.
     pub(crate) kind: u8,
     pub(crate) site: u8,
     pub(crate) clock: u32,
