@@ -17,6 +17,10 @@
 //!     Reads the messages in DIR so many times and prints how fast that was.
 //! second pace < JOBS
 //!     Does the work that each line names, so many rounds of it, and prints sums of what came out.
+//! second load < JOBS
+//!     Does the load that each line names, and prints what came of it.
+//! second trace < JOBS
+//!     Does the same, and prints each step of it, for a comparison with another store.
 //! second selftest
 //!     Checks the worked examples of the documents, and the makers against the reader and the tables.
 //!
@@ -29,9 +33,11 @@ mod cases;
 mod coverage;
 mod damage_actions;
 mod damage_heads;
+mod dice;
 mod draft;
 mod examples;
 mod kind;
+mod load;
 mod makers;
 mod message;
 mod message_maker;
@@ -44,6 +50,7 @@ mod script_examples;
 mod script_maker;
 mod selftest;
 mod table;
+mod trace;
 mod wrong_lines;
 
 use std::io::{self, Read, Write};
@@ -51,6 +58,7 @@ use std::path::PathBuf;
 use std::process::ExitCode;
 
 use reader::Question;
+use trace::Trace;
 
 const USAGE: &str = "usage: second script < SCRIPT
        second scripts SEED COUNT DIR
@@ -58,6 +66,8 @@ const USAGE: &str = "usage: second script < SCRIPT
        second messages SEED COUNT DIR
        second bench DIR ROUNDS
        second pace < JOBS
+       second load < JOBS
+       second trace < JOBS
        second selftest";
 
 enum Command {
@@ -83,6 +93,8 @@ enum Command {
         rounds: u32,
     },
     Pace,
+    Load,
+    Trace,
     Selftest,
 }
 
@@ -112,6 +124,8 @@ impl Command {
                 rounds: rounds.parse().ok()?,
             },
             ["pace"] => Command::Pace,
+            ["load"] => Command::Load,
+            ["trace"] => Command::Trace,
             ["selftest"] => Command::Selftest,
             _ => return None,
         };
@@ -149,6 +163,12 @@ impl Command {
             }
             Command::Bench { dir, rounds } => Ok(bench::messages(&dir, rounds)?.into_bytes()),
             Command::Pace => Ok(pace::run(&input(u64::MAX)?)?.into_bytes()),
+            Command::Load => Ok(load::run(&input(u64::MAX)?, &mut Trace::none())?.into_bytes()),
+            Command::Trace => {
+                let mut trace = Trace::begin();
+                load::run(&input(u64::MAX)?, &mut trace)?;
+                Ok(trace.into_lines().into_bytes())
+            }
             Command::Selftest => Ok(selftest::run()?.into_bytes()),
         }
     }

@@ -1,7 +1,7 @@
 //! The table of one site.
 //!
 //! The history is a map in the order of actions, known entries that are 0 are not kept, and figures are
-//! worked from the whole history when they are asked for. Nothing is archived, so every base is the
+//! worked from the whole history when they are asked for. Of the bases, those are kept that are not the
 //! start figure.
 
 use std::collections::BTreeMap;
@@ -28,6 +28,7 @@ pub struct Table {
     clock: u32,
     known: BTreeMap<Entry, u32>,
     history: BTreeMap<Moment, Action>,
+    bases: BTreeMap<u8, i64>,
     pending: Option<Vec<Action>>,
 }
 
@@ -46,8 +47,13 @@ impl Table {
             clock: 0,
             known: BTreeMap::new(),
             history: BTreeMap::new(),
+            bases: BTreeMap::new(),
             pending: None,
         }
+    }
+
+    pub fn frame(&self) -> &Frame {
+        &self.frame
     }
 
     pub fn own(&self) -> u8 {
@@ -252,9 +258,42 @@ impl Table {
             .history
             .values()
             .filter(|action| action.moment.article == article);
-        Ok(actions.fold(kind.start(), |figure, action| {
+        Ok(actions.fold(self.base(article), |figure, action| {
             kind.step(figure, action.pair)
         }))
+    }
+
+    /// Works what every site is known to have of an article into its base, and answers how many actions
+    /// that were.
+    pub fn archive(&mut self, article: u8) -> Result<usize, Refusal> {
+        if self.pending.is_some() {
+            return Err(Refusal::AlreadyOpen);
+        }
+        self.check_article(article)?;
+        let sites = 0..self.frame.sites;
+        let everywhere = sites
+            .clone()
+            .flat_map(|has| sites.clone().map(move |of| (has, of)))
+            .map(|(has, of)| self.entry(article, has, of))
+            .min()
+            .unwrap_or(0);
+        let kind = self.frame.kind;
+        let mut base = self.base(article);
+        let before = self.history.len();
+        self.history.retain(|moment, action| {
+            let stays = moment.article != article || moment.time > everywhere;
+            if !stays {
+                base = kind.step(base, action.pair);
+            }
+            stays
+        });
+        self.bases.insert(article, base);
+        Ok(before - self.history.len())
+    }
+
+    fn base(&self, article: u8) -> i64 {
+        let start = self.frame.kind.start();
+        self.bases.get(&article).copied().unwrap_or(start)
     }
 
     pub fn known(&self, article: u8, has: u8, of: u8) -> Result<u32, Refusal> {

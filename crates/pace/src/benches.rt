@@ -1,7 +1,6 @@
 ghost use Rattle.std.specs.Prelude.{◌<◌};
 
 use crate::bags::Bag;
-use crate::histories::Made;
 use crate::jobs::Work;
 use action::Setup;
 use history::History;
@@ -9,6 +8,7 @@ use kind::OnHand;
 use std::alloc::{AllocError, Global};
 use std::ops::Range;
 use table::Table;
+use trials::{Made, Movement, post};
 
 // The articles of a table.
 pub(crate) const ARTICLES: [u8; 4] = [0, 1, 2, 3];
@@ -68,28 +68,23 @@ impl<H: History + Made + Drop> Bench<H> {
     }
 }
 
+// The movement of a number.
+fn movement(number: usize) -> Movement {
+    Movement {
+        article: ARTICLES[number % ARTICLES.len()],
+        operation: OnHand::ADD,
+        // `as` keeps what is below 1,000, which is proved.
+        amount: (number % 1000) as i32 - 500,
+    }
+}
+
 // The calls, each over all of a table or of the messages. What is refused adds nothing.
 impl<H: History> Bench<H> {
-    // Posts a transaction of the actions of these numbers, but for what is refused: in `script` and
-    // `two_sites` a refused write ends it.
+    // Posts a transaction of the movements of these numbers.
     fn post(&mut self, numbers: Range<usize>) -> Result<(), AllocError> {
-        let Ok(ticket) = self.table.open() else {
-            return Ok(());
-        };
-        for number in numbers {
-            let article = ARTICLES[number % ARTICLES.len()];
-            // `as` keeps what is below 1,000, which is proved.
-            let amount = (number % 1000) as i32 - 500;
-            // Granted or refused, the ticket stays the table's.
-            let _ = self.table.write(&ticket, article, OnHand::ADD, amount);
-        }
-        let length = match self.table.commit(ticket, &mut self.buffer) {
-            Ok((_, length)) => length,
-            Err((_, ticket)) => {
-                self.table.abandon(ticket).unwrap();
-                0
-            }
-        };
+        let movements = numbers.map(movement);
+        let posted = post(&mut self.table, movements, &mut self.buffer);
+        let length = posted.map_or(0, |(_, length)| length);
         self.bag.add(&self.buffer[..length])
     }
 

@@ -1,11 +1,5 @@
-use std::num::ParseIntError;
 use std::str::FromStr;
-
-#[derive(Clone, Copy)]
-pub enum Keeping {
-    Rack,
-    Strip,
-}
+use trials::{Keeping, NoJob};
 
 // What there is before the first round.
 #[derive(Clone, Copy)]
@@ -53,28 +47,6 @@ pub struct Job {
     pub call: Call,
     pub places: usize,
     pub rounds: u32,
-}
-
-// A line that is no job.
-#[derive(Clone, Copy)]
-pub struct NoJob;
-
-impl From<ParseIntError> for NoJob {
-    fn from(_error: ParseIntError) -> NoJob {
-        NoJob
-    }
-}
-
-impl FromStr for Keeping {
-    type Err = NoJob;
-
-    fn from_str(word: &str) -> Result<Keeping, NoJob> {
-        match word {
-            "rack" => Ok(Keeping::Rack),
-            "strip" => Ok(Keeping::Strip),
-            _ => Err(NoJob),
-        }
-    }
 }
 
 impl FromStr for Call {

@@ -5,12 +5,12 @@
 
 mod bags;
 mod benches;
-mod histories;
 mod jobs;
 mod rounds;
 
-use jobs::{Job, NoJob};
+use jobs::Job;
 use std::io;
+use trials::NoJob;
 
 fn main(rt: HostRuntime) -> io::Result<()> {
     for line in rt.lines(rt.alloc()) {

@@ -1,9 +1,9 @@
 use crate::benches::{ARTICLES, Bench};
-use crate::histories::Made;
-use crate::jobs::{Basis, Job, Keeping, Start};
+use crate::jobs::{Basis, Job, Start};
 use history::{History, Rack, Strip};
 use std::alloc::{AllocError, Global};
 use std::fmt;
+use trials::{Keeping, Made};
 
 #[derive(Drop)]
 pub struct Report {

@@ -1,10 +1,10 @@
 // The book: what a reader of the lines writes down, from who called what and whether it was granted.
-use crate::picks::Movement;
 use crate::walks::Stretch;
 use action::Action;
 use kind::Kind;
 use std::alloc::{AllocError, Global};
 use std::collections::BTreeMap;
+use trials::Movement;
 
 // Where an action stands in the order of actions: by time, then by coordinator, then by article. It is
 // written here a second time, so that the book leans on no order of the library's.

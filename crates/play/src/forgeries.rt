@@ -4,12 +4,12 @@
 ghost use Rattle.std.specs.Prelude.{◌≤◌, IfSome};
 
 use crate::books::Book;
-use crate::chances::Dice;
 use crate::dues::Due;
 use crate::runs::Run;
 use crate::walks::stretches;
 use kind::Kind;
 use std::alloc::AllocError;
+use trials::Dice;
 
 // Where in a message the header's last two fields stand, the first section's head, and its first interval.
 const SENDER: usize = 4;

@@ -1,11 +1,11 @@
 // Lines that belong together: those that have all sites move, and those that bring an article level.
 use crate::lines::Offer;
-use crate::picks::Movement;
 use crate::runs::{Run, SLOTS};
 use crate::slots::Space;
 use crate::stops::Stop;
 use crate::transactions::Turn;
 use kind::Kind;
+use trials::Movement;
 
 impl<K: Kind + Drop, J: Kind + Drop> Run<K, J> {
     // Commits the own transaction, into a slot by chance.

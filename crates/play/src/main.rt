@@ -7,7 +7,6 @@
 #![tactic(auto)]
 
 mod books;
-mod chances;
 mod dues;
 mod forgeries;
 mod laws;

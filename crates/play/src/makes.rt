@@ -1,6 +1,5 @@
 // New tables for a run, by chance.
 use crate::books::Book;
-use crate::chances::Dice;
 use crate::outsiders::{Outsider, Stranger};
 use crate::reports::Counts;
 use crate::runs::{Run, SLOTS};
@@ -13,6 +12,7 @@ use history::{PLACE_BYTES, Rack, Shelf, Strip};
 use kind::Kind;
 use std::alloc::{AllocError, Global};
 use table::Table;
+use trials::Dice;
 
 // What the tables of a run are made by: the memory that they stand in, and the dice that say how.
 #[derive(Drop)]

@@ -1,20 +1,11 @@
 // What a line is given, by chance.
 ghost use Rattle.std.specs.Prelude.{◌≤◌};
 
-use crate::chances::Dice;
 use crate::outsiders::MOST_SITES;
 use crate::runs::{Run, SLOTS};
 use crate::slots::{SLOT_BYTES, Space};
 use kind::Kind;
-
-// What is to be written: a pair, on an article.
-#[derive(Clone, Copy)]
-pub(crate) struct Movement {
-    pub(crate) article: u8,
-    // A number, since each kind has operations of its own, and some pairs are to be refused.
-    pub(crate) operation: u8,
-    pub(crate) amount: i32,
-}
+use trials::{Dice, Movement};
 
 // Whose ticket a line goes by.
 #[derive(Clone, Copy, PartialEq, Eq)]

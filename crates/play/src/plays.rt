@@ -1,5 +1,4 @@
 // A run from its beginning to its end, with lines by chance.
-use crate::chances::Dice;
 use crate::lines::Offer;
 use crate::makes::make_run;
 use crate::outsiders::Stranger;
@@ -11,6 +10,7 @@ use crate::slots::Space;
 use crate::stops::Stop;
 use crate::transactions::Turn;
 use kind::Kind;
+use trials::Dice;
 
 // A call that goes by a ticket.
 #[derive(Clone, Copy)]

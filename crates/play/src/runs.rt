@@ -1,6 +1,5 @@
 // One run: the tables of one group, the messages that wait, and the book.
 use crate::books::Book;
-use crate::chances::Dice;
 use crate::outsiders::Outsider;
 use crate::reports::Counts;
 use crate::seats::Seat;
@@ -9,6 +8,7 @@ use history::Shelf;
 use kind::Kind;
 use std::alloc::{AllocError, Global};
 use table::Table;
+use trials::Dice;
 
 // How many messages wait at a time; an older one is lost when another goes into its slot.
 pub(crate) const SLOTS: u8 = 12;

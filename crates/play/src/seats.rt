@@ -4,10 +4,10 @@ ghost use Rattle.std.specs.Prelude.{◌≡◌, true, Some, None, MatchResult};
 ghost use Rattle.play.specs.Calls.{Fair};
 ghost use Rattle.table.specs.Transactions.{holds};
 
-use crate::picks::Movement;
 use history::History;
 use kind::Kind;
 use table::{Table, TableFault, Ticket};
+use trials::Movement;
 
 // What a call by a ticket answered, and the ticket where the call did not spend it.
 pub(crate) type Answered<T> = (Result<T, TableFault>, Option<Ticket>);

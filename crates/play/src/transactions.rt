@@ -1,6 +1,6 @@
 // The lines of transactions: open, write, commit and abandon, by the own ticket or a wrong one.
 use crate::dues::Due;
-use crate::picks::{Holder, Movement};
+use crate::picks::Holder;
 use crate::reports::{Law, up};
 use crate::runs::Run;
 use crate::seats::{Abandon, Call, Commit, Write};
@@ -9,6 +9,7 @@ use crate::stops::Stop;
 use action::MOST_WRITES;
 use kind::Kind;
 use table::TableFault;
+use trials::Movement;
 
 // At which site a call is made, and by whose ticket.
 #[derive(Clone, Copy)]

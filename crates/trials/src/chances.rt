@@ -3,13 +3,13 @@ ghost use Rattle.std.specs.Prelude.{◌-◌, ◌≤◌};
 
 // A xorshift generator of 64 bits. Its state is never 0.
 #[derive(Clone, Copy)]
-pub(crate) struct Dice {
+pub struct Dice {
     state: u64,
 }
 
 impl Dice {
     // The seeds of neighbouring runs are spread out, and thrown on for a while before they count.
-    pub(crate) fn new(seed: u64) -> Dice {
+    pub fn new(seed: u64) -> Dice {
         let mut dice = Dice {
             state: seed.wrapping_mul(0x9E37_79B9_7F4A_7C15) | 1,
         };
@@ -29,7 +29,7 @@ impl Dice {
     }
 
     // A number below `n`; 0 where there is none.
-    pub(crate) fn below(&mut self, n: u32) -> u32
+    pub fn below(&mut self, n: u32) -> u32
         ensures { result ≤ n - 1 }
     {
         if n == 0 {
@@ -41,18 +41,18 @@ impl Dice {
     }
 
     // The same, of one byte.
-    pub(crate) fn byte(&mut self, n: u8) -> u8
+    pub fn byte(&mut self, n: u8) -> u8
         ensures { result ≤ n - 1 }
     {
         self.below(u32::from(n)) as u8
     }
 
-    pub(crate) fn chance(&mut self, percent: u32) -> bool {
+    pub fn chance(&mut self, percent: u32) -> bool {
         self.below(100) < percent
     }
 
     // Any number of 32 bits but −1, signed.
-    pub(crate) fn any(&mut self) -> i32 {
+    pub fn any(&mut self) -> i32 {
         self.below(u32::MAX).cast_signed()
     }
 }

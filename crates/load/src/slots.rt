@@ -1,0 +1,32 @@
+use std::alloc::{AllocError, Global};
+
+// A place for one message that waits for a site.
+#[derive(Drop)]
+pub(crate) struct Slot {
+    message: Vec<u8>,
+    // Where it goes; nowhere if none waits.
+    site: Option<u8>,
+}
+
+impl Slot {
+    pub(crate) fn empty(heap: Global) -> Slot {
+        Slot {
+            message: Vec::new(heap),
+            site: None,
+        }
+    }
+
+    // Keeps a message for a site.
+    pub(crate) fn keep(&mut self, message: &[u8], site: u8) -> Result<(), AllocError> {
+        self.message.clear();
+        self.message.extend_from_slice(message)?;
+        self.site = Some(site);
+        Ok(())
+    }
+
+    // The message that waits, and its site. The slot is empty afterwards.
+    pub(crate) fn release(&mut self) -> Option<(u8, &[u8])> {
+        let site = self.site.take()?;
+        Some((site, &self.message))
+    }
+}
