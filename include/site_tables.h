@@ -17,15 +17,16 @@ extern "C" {
  * Checks the bytes of one message, for the tables of a group and of one kind of figure, and answers
  * how many actions it carries.
  *
- *   message, length   the bytes; they are only read, during the call, and stay the caller's. No bytes
- *                     are an empty message, which is refused by 9; message may be null then.
+ *   message, length   the bytes; they are only read, during the call, and stay the caller's. Where length
+ *                     is 0, and only then, message may be null.
  *   group             the group's number, 1 to 65,535
  *   kind              the kind of figure: 1 on-hand, 2 flags, 3 price
  *   sites, articles   how many the group has: 2 to 8 sites, 1 to 64 articles
  *
- * The answer is the count of actions, 0 or more, or
+ * The answer is the count of actions, 0 or more, or what is met first, where -1 comes before any look at
+ * the bytes, and then each record is looked at in turn, for -9, -10 and -11 in this order:
  *    -1  the group, the sites or the articles are outside their limits, or the call has no such kind
- *    -9  a record is cut off, or not of the kind due
+ *    -9  a record is cut off, or not of the kind due; so are no bytes at all
  *   -10  the header names another group or kind
  *   -11  a record breaks a field rule
  *   -12  bytes follow the last record
