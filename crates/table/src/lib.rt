@@ -8,13 +8,13 @@ mod checks;
 mod commits;
 mod emits;
 mod faults;
-mod levels;
 mod makes;
 mod offers;
 mod pendings;
 mod state;
 mod stores;
 mod tables;
+mod takes;
 mod tickets;
 mod transactions;
 
