@@ -12,10 +12,11 @@ use Rattle.kind.specs.Working.{on, working}
 use Rattle.kind.proofs.Workings.{working_append, working_fits}
 use Rattle.table.specs.declared.faults.TableFault.{TableFault}
 use Rattle.row.specs.declared.rows.Row.{Row}
-use Rattle.table.specs.Archiving.{Archived, archived, archived_row, is_old, least, least_of, olds}
+use Rattle.table.specs.Archiving.{Archived, archived, archived_row, is_old, least, olds}
 use Rattle.table.specs.Sound.{Fitting, Sound, Square}
 use Rattle.table.specs.View.{View, entry, row}
 use Rattle.row.specs.Entries.{at, no_row}
+use Rattle.row.specs.Passes.{least_of_in}
 use Rattle.std.proofs.lemmas.List.Elements.{filter_agree}
 use Rattle.row.proofs.Kept.{kept_by_both, kept_by_few}
 use Rattle.table.proofs.Rising.{has_counting}
@@ -42,12 +43,16 @@ module _ (v : View) (a : ℕ) where
   abbrev lower : ℕ → ℕ → ℕ → ℕ
   lower z t q = min t (entry v a z q)
 
-  of_row_falls : (t z : ℕ) → least_of v a t z ≤ t
-  of_row_falls t z = folded_falls (lower z) (λ t q. omega arith) t (range_with_len 0 v.setup.sites)
+  -- the least of t and the article's known entries of site z
+  abbrev least_of : ℕ → ℕ → ℕ
+  least_of = least_of_in v.rows v.setup.sites a
+
+  least_of_falls : (t z : ℕ) → least_of t z ≤ t
+  least_of_falls t z = folded_falls (lower z) (λ t q. omega arith) t (range_with_len 0 v.setup.sites)
 
   pub least_le : (z q : ℕ) → z < v.setup.sites → q < v.setup.sites → least v a ≤ entry v a z q
   least_le z q zs qs =
-      folded_below (least_of v a) of_row_falls (entry v a z q) (range_with_len 0 v.setup.sites) z (has_counting v.setup.sites z zs) (λ t.
+      folded_below least_of least_of_falls (entry v a z q) (range_with_len 0 v.setup.sites) z (has_counting v.setup.sites z zs) (λ t.
       folded_below (lower z) (λ t q. omega arith) (entry v a z q) (range_with_len 0 v.setup.sites) q (has_counting v.setup.sites q qs) (λ t. omega arith) t) (entry v a 0 0)
 
 -- WHICH ACTIONS STAY
@@ -122,7 +127,7 @@ module _ (kind : Meaning) (step_fits : (f : ℤ) (o : ℕ) (a : ℤ) → SFits w
       worked = archived_worked;
       based = by_row (archived_row kind v a) v.rows (λ b r. SFits w64 r.base) (λ b _. s.based b) (λ b _. cond_both (eqb b a) (working kind.steps (row v b).base (olds v a)) (row v b).base (SFits w64) (λ _. working_fits kind.steps step_fits (row v b).base (olds v a) (s.based b)) (λ _. s.based b));
       each_article = length_each_row (archived_row kind v a) 0 v.rows ∙ s.each_article;
-      square = All-from_get_or Square w.rows no_row (λ b lt. let within : b < length v.rows = omega (arith, length_each_row (archived_row kind v a) 0 v.rows) in subst Square (sym (row_each (archived_row kind v a) v.rows b within)) (All-get_or Square v.rows b no_row within s.square));
+      square = All-from_get_or (λ r. Square r.known) w.rows no_row (λ b lt. let within : b < length v.rows = omega (arith, length_each_row (archived_row kind v a) 0 v.rows) in subst (λ (r : Row). Square r.known) (sym (row_each (archived_row kind v a) v.rows b within)) (All-get_or (λ r. Square r.known) v.rows b no_row within s.square));
       few = s.few;
       waiting = s.waiting;
       closed = s.closed;

@@ -5,34 +5,31 @@ use Rattle.std.proofs.ByRecursion.{All-get_or, All-set}
 use Rattle.std.proofs.lemmas.List.{get_or_past, get_or-replicate, get_or-set_other, get_or-set_same, length-set, set_past}
 use Rattle.std.proofs.lemmas.Bool.{cases_eq, cases_lt}
 use Rattle.row.specs.Entries.{at, raised, unknown}
+use Rattle.table.specs.Sound.{Square}
 
--- eight rows of eight entries
-abbrev pub Eights : List (List ℕ) → Type 0
-Eights known = (length known ≡ 8) × AllByRecursion (λ entries. length entries ≡ 8) known
-
-module _ (known : List (List ℕ)) (z q t : ℕ) (eights : Eights known) where
+module _ (known : List (List ℕ)) (z q t : ℕ) (square : Square known) where
   row_long : z < 8 → length (get_or known z []) ≡ 8
-  row_long lt = All-get_or (λ entries. length entries ≡ 8) known z [] (omega (arith, eights.0)) eights.1
+  row_long lt = All-get_or (λ entries. length entries ≡ 8) known z [] (omega (arith, square.0)) square.1
 
-  pub eights_raised : Eights (raised known z q t)
-  eights_raised = (
-    length-set known z _ ∙ eights.0,
+  pub square_raised : Square (raised known z q t)
+  square_raised = (
+    length-set known z _ ∙ square.0,
     ⊎_elim
-        (λ lt. All-set (λ entries. length entries ≡ 8) known z _ (length-set (get_or known z []) q _ ∙ row_long lt) eights.1)
-        (λ past. subst (AllByRecursion (λ entries. length entries ≡ 8)) (sym (set_past known z _ (omega (arith, eights.0)))) eights.1)
+        (λ lt. All-set (λ entries. length entries ≡ 8) known z _ (length-set (get_or known z []) q _ ∙ row_long lt) square.1)
+        (λ past. subst (AllByRecursion (λ entries. length entries ≡ 8)) (sym (set_past known z _ (omega (arith, square.0)))) square.1)
         (cases_lt z 8),
   )
 
   pub at_raised : z < 8 → q < 8 → at (raised known z q t) z q ≡ max (at known z q) t
   at_raised zs qs =
-      ap (λ (l : List ℕ). get_or l q 0) (get_or-set_same known z _ [] (omega (arith, eights.0))) ∙ get_or-set_same (get_or known z []) q _ 0 (omega (arith, row_long zs))
+      ap (λ (l : List ℕ). get_or l q 0) (get_or-set_same known z _ [] (omega (arith, square.0))) ∙ get_or-set_same (get_or known z []) q _ 0 (omega (arith, row_long zs))
 
   pub at_raised_row : (y : ℕ) (p : ℕ) → (y ≡ z → ⊥) → at (raised known z q t) y p ≡ at known y p
   at_raised_row y p other = ap (λ (l : List ℕ). get_or l p 0) (get_or-set_other known z y _ [] other)
 
   pub at_raised_column : z < 8 → (p : ℕ) → (p ≡ q → ⊥) → at (raised known z q t) z p ≡ at known z p
   at_raised_column zs p other =
-      ap (λ (l : List ℕ). get_or l p 0) (get_or-set_same known z _ [] (omega (arith, eights.0))) ∙ get_or-set_other (get_or known z []) q p _ 0 other
+      ap (λ (l : List ℕ). get_or l p 0) (get_or-set_same known z _ [] (omega (arith, square.0))) ∙ get_or-set_other (get_or known z []) q p _ 0 other
 
   pub at_raised_other : z < 8 → (y p : ℕ) → (p ≡ q → ⊥) → at (raised known z q t) y p ≡ at known y p
   at_raised_other zs y p other =

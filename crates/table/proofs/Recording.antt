@@ -27,10 +27,6 @@ module _ (kind : Meaning) (v : View) (m : Message) where
   abbrev told : List Row → List Row
   told rows = fold (raised_rows own m.sender) rows hs
 
-  -- a row with its figure worked anew and its entries raised
-  abbrev after : ℕ → Row → Row
-  after a r = taken_row kind v m a r
-
   long_told : (rows : List Row) → length (told rows) ≡ length rows
   long_told rows = length_on_articles (λ h. h.0) (λ (h : ℕ × Interval) r. raised_row m.sender h.1.site h.1.to (raised_row own h.1.site h.1.to r)) rows hs
 

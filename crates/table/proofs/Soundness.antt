@@ -19,7 +19,7 @@ use Rattle.table.specs.Sound.{Fitting, Sound, Square, Waiting}
 use Rattle.table.specs.Transactions.{Abandoned, Committed, Opened, Wrote, committed, committed_row, holds, latest, new_action, next_time, opened, with_transaction, written}
 use Rattle.table.specs.View.{View, entry, fresh, row}
 use Rattle.row.specs.Entries.{at, no_row, raised, start_row}
-use Rattle.table.proofs.Entries.{at_raised, at_raised_column, at_raised_ge, at_raised_row, at_unknown, eights_raised}
+use Rattle.table.proofs.Entries.{at_raised, at_raised_column, at_raised_ge, at_raised_row, at_unknown, square_raised}
 use Rattle.message.specs.Progress.{no_action}
 use Rattle.row.proofs.RowLaws.{by_row, length_each_row, row_each, row_past}
 use Rattle.table.proofs.Waiting.{latest_ge, latest_le, waiting_ascending, waiting_fitting, waiting_own, waiting_push, waiting_times}
@@ -58,7 +58,7 @@ module _ (kind : Meaning) (setup : Setup) (capacity : ℕ) (few_places : capacit
     worked = λ a _. fresh_row (λ r. r.kept ≡ r.base) refl refl a;
     based = fresh_row (λ r. SFits w64 r.base) start_fits (record { sfits = omega arith });
     each_article = refl;
-    square = All-from_get_or Square first.rows no_row (λ a lt. subst Square (sym (get_or-replicate 64 a (start_row kind.starts) no_row lt)) (refl, (refl, (refl, (refl, (refl, (refl, (refl, (refl, (refl, tt))))))))));
+    square = All-from_get_or (λ r. Square r.known) first.rows no_row (λ a lt. subst (λ (r : Row). Square r.known) (sym (get_or-replicate 64 a (start_row kind.starts) no_row lt)) (refl, (refl, (refl, (refl, (refl, (refl, (refl, (refl, (refl, tt))))))))));
     few = omega arith;
     waiting = tt;
     closed = λ _. refl;
@@ -145,8 +145,8 @@ module _ (kind : Meaning) (v : View) (s : Sound kind v) (free : length v.history
   same_row : (a : ℕ) → 64 ≤ a → row w a ≡ row v a
   same_row a past = row_past (committed_row kind v) v.rows a (omega (arith, s.each_article))
 
-  square_row : (a : ℕ) → a < 64 → Square (row v a)
-  square_row a lt = All-get_or Square v.rows a no_row (omega (arith, s.each_article)) s.square
+  square_row : (a : ℕ) → a < 64 → Square (row v a).known
+  square_row a lt = All-get_or (λ r. Square r.known) v.rows a no_row (omega (arith, s.each_article)) s.square
 
   -- what holds of an article's entries holds where they are those before the commit, and where the own one is raised
   by_entry : (P : ℕ → (ℕ → ℕ → ℕ) → Type 0) → ((a : ℕ) → 64 ≤ a → P a (entry v a)) → ((a : ℕ) → a < 64 → P a (at (raised (row v a).known own own (latest a v.pending)))) → (a : ℕ) → P a (entry w a)
@@ -222,7 +222,7 @@ module _ (kind : Meaning) (v : View) (s : Sound kind v) (free : length v.history
     worked = worked;
     based = by_row (committed_row kind v) v.rows (λ a r. SFits w64 r.base) (λ a _. s.based a) (λ a _. s.based a);
     each_article = long;
-    square = All-from_get_or Square w.rows no_row (λ a lt. let below : a < 64 = omega (arith, long) in subst Square (sym (committed_row_lem a below)) (eights_raised (row v a).known own own (latest a v.pending) (square_row a below)));
+    square = All-from_get_or (λ r. Square r.known) w.rows no_row (λ a lt. let below : a < 64 = omega (arith, long) in subst (λ (r : Row). Square r.known) (sym (committed_row_lem a below)) (square_raised (row v a).known own own (latest a v.pending) (square_row a below)));
     few = omega arith;
     waiting = tt;
     closed = λ _. refl;

@@ -5,10 +5,11 @@ use Rattle.std.proofs.ByRecursion.{all-has}
 use Rattle.std.proofs.lemmas.Bool.{and_from, and_parts, cases_eq, eq-eqb, eqb-true, ne_eqb}
 use Rattle.action.proofs.Members.{all_from_has, has_kept_by, has_kept_by_parts}
 use Rattle.message.specs.declared.records.Interval.{Interval}
+use Rattle.table.specs.Sound.{Square}
 use Rattle.table.specs.Taking.{highest}
 use Rattle.row.specs.Passes.{raised_by}
 use Rattle.row.specs.Entries.{at, raised}
-use Rattle.table.proofs.Entries.{Eights, at_raised, at_raised_ge, at_raised_le, at_raised_other, at_raised_row, eights_raised}
+use Rattle.table.proofs.Entries.{at_raised, at_raised_ge, at_raised_le, at_raised_other, at_raised_row, square_raised}
 use Rattle.table.proofs.Greatest.{greatest, greatest_above, greatest_from, greatest_ge, greatest_le}
 use Rattle.row.proofs.Kept.{kept_by_both}
 
@@ -23,20 +24,20 @@ module _ (own sender : ℕ) (own_lt : own < 8) (sender_lt : sender < 8) where
   abbrev step : List (List ℕ) → ℕ × Interval → List (List ℕ)
   step = raised_by own sender
 
-  pub eights_told : (known : List (List ℕ)) (hs : List (ℕ × Interval)) → Eights known → Eights (fold (raised_by own sender) known hs)
-  eights_told known [] e = e
-  eights_told known (h ∷ hs) e = eights_told (step known h) hs (eights_raised _ sender h.1.site h.1.to (eights_raised known own h.1.site h.1.to e))
+  pub square_told : (known : List (List ℕ)) (hs : List (ℕ × Interval)) → Square known → Square (fold (raised_by own sender) known hs)
+  square_told known [] e = e
+  square_told known (h ∷ hs) e = square_told (step known h) hs (square_raised _ sender h.1.site h.1.to (square_raised known own h.1.site h.1.to e))
 
   -- the rows of other sites stay
-  pub at_untold : (z q : ℕ) → (z ≡ own → ⊥) → (z ≡ sender → ⊥) → (known : List (List ℕ)) (hs : List (ℕ × Interval)) → Eights known → at (fold (raised_by own sender) known hs) z q ≡ at known z q
+  pub at_untold : (z q : ℕ) → (z ≡ own → ⊥) → (z ≡ sender → ⊥) → (known : List (List ℕ)) (hs : List (ℕ × Interval)) → Square known → at (fold (raised_by own sender) known hs) z q ≡ at known z q
   at_untold z q not_own not-sender known [] e = refl
   at_untold z q not_own not-sender known (h ∷ hs) e =
-      let once = eights_raised known own h.1.site h.1.to e in
-      at_untold z q not_own not-sender (step known h) hs (eights_raised _ sender h.1.site h.1.to once) ∙ at_raised_row (raised known own h.1.site h.1.to) sender h.1.site h.1.to once z q not-sender ∙ at_raised_row known own h.1.site h.1.to e z q not_own
+      let once = square_raised known own h.1.site h.1.to e in
+      at_untold z q not_own not-sender (step known h) hs (square_raised _ sender h.1.site h.1.to once) ∙ at_raised_row (raised known own h.1.site h.1.to) sender h.1.site h.1.to once z q not-sender ∙ at_raised_row known own h.1.site h.1.to e z q not_own
 
   module _ (z : ℕ) (told : (z ≡ own) ⊎ (z ≡ sender)) where
     -- one interval raises the entry of its site
-    at_step : (known : List (List ℕ)) (h : ℕ × Interval) → Eights known → Sited h → (q : ℕ) → at (step known h) z q ≡ max (at known z q) (cond (eqb h.1.site q) h.1.to 0)
+    at_step : (known : List (List ℕ)) (h : ℕ × Interval) → Square known → Sited h → (q : ℕ) → at (step known h) z q ≡ max (at known z q) (cond (eqb h.1.site q) h.1.to 0)
     at_step known h e sited q =
         ⊎_elim
         (λ same. subst (λ (n : ℕ). at (step known h) z n ≡ max (at known z n) (cond (eqb p n) t 0)) same (⊎_elim own_row sender_row told ∙ ap (λ b. max (at known z p) (cond b t 0)) (sym (eq-eqb p p refl))))
@@ -53,8 +54,8 @@ module _ (own sender : ℕ) (own_lt : own < 8) (sender_lt : sender < 8) where
         once : List (List ℕ)
         once = raised known own p t
 
-        twice : Eights once
-        twice = eights_raised known own p t e
+        twice : Square once
+        twice = square_raised known own p t e
 
         own_row : z ≡ own → at (step known h) z p ≡ max (at known z p) t
         own_row is =
@@ -65,11 +66,11 @@ module _ (own sender : ℕ) (own_lt : own < 8) (sender_lt : sender < 8) where
             subst (λ (n : ℕ). at (step known h) n p ≡ max (at known n p) t) (sym is) (omega (arith, at_raised once sender p t twice sender_lt sited, at_raised_ge known own p t e own_lt sited sender p, at_raised_le known own p t e own_lt sited sender p))
 
     -- this table's row and the sender's are raised to what the intervals say
-    pub at_told : (known : List (List ℕ)) (hs : List (ℕ × Interval)) → Eights known → AllByRecursion (λ h. h.1.site < 8) hs → (q : ℕ) → at (fold (raised_by own sender) known hs) z q ≡ max (at known z q) (up_to q hs)
+    pub at_told : (known : List (List ℕ)) (hs : List (ℕ × Interval)) → Square known → AllByRecursion (λ h. h.1.site < 8) hs → (q : ℕ) → at (fold (raised_by own sender) known hs) z q ≡ max (at known z q) (up_to q hs)
     at_told known [] e sited q = omega arith
     at_told known (h ∷ hs) e sited q =
-        let once = eights_raised known own h.1.site h.1.to e in
-        more (eqb h.1.site q) (at_step known h e sited.0 q) (at_told (step known h) hs (eights_raised _ sender h.1.site h.1.to once) sited.1 q)
+        let once = square_raised known own h.1.site h.1.to e in
+        more (eqb h.1.site q) (at_step known h e sited.0 q) (at_told (step known h) hs (square_raised _ sender h.1.site h.1.to once) sited.1 q)
       where
         more : (b : Bool) → at (step known h) z q ≡ max (at known z q) (cond b h.1.to 0) → at (fold (raised_by own sender) known (h ∷ hs)) z q ≡ max (at (step known h) z q) (up_to q hs) → at (fold (raised_by own sender) known (h ∷ hs)) z q ≡ max (at known z q) (greatest (λ (k : ℕ × Interval). k.1.to) 0 (cond b (h ∷ filter (λ k. eqb k.1.site q) hs) (filter (λ k. eqb k.1.site q) hs)))
         more true one rest = omega (arith, one, rest, greatest_from (λ (k : ℕ × Interval). k.1.to) (max 0 h.1.to) (filter (λ k. eqb k.1.site q) hs))

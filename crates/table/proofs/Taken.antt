@@ -1,9 +1,9 @@
 -- A table that took a message: what the checks say, its entries and its new actions, and that it is sound.
 -- Assumes nothing.
-use Rattle.std.proofs.Common.{◌≡◌, ℕ, ◌+◌, ◌<◌, ◌≤◌, max, Bool, true, false, cond, eqb, ltb, leb, ◌⊎◌, List, [], length, ℤ, Some, None, Ok, Err, filter, Option, Result, sym, refl, ap, ◌∙◌, subst, inl, inr, ⊎_elim, arith, w64, SFits}
+use Rattle.std.proofs.Common.{◌≡◌, ℕ, ◌+◌, ◌<◌, ◌≤◌, max, Bool, true, false, cond, eqb, leb, ◌⊎◌, List, [], length, ℤ, Some, None, Ok, Err, filter, Option, Result, sym, refl, ap, ◌∙◌, subst, inl, inr, ⊎_elim, arith, w64, SFits}
 use Rattle.std.specs.List.{ContainsAt as Has, AllByRecursion}
 use Rattle.std.proofs.ByRecursion.{All-from_get_or, All-get_or, all-has, all_kept_by, All-weaker, kept_by_passes}
-use Rattle.std.proofs.lemmas.Bool.{and_cases, cases_eq, eq-eqb, leb-true, ltb-false, ltb-true, true≢false}
+use Rattle.std.proofs.lemmas.Bool.{cases_eq, leb-true, ltb-false, ltb-true}
 use Rattle.action.specs.declared.orders.Action.{Action}
 use Rattle.action.specs.declared.refusals.Refusal.{Refusal}
 use Rattle.action.specs.Lawful.{by_history, unless}
@@ -28,7 +28,7 @@ use Rattle.row.specs.Entries.{at, no_row}
 use Rattle.table.proofs.Greatest.{greatest, greatest_from, greatest_ge, greatest_le}
 use Rattle.row.proofs.RowLaws.{by_row, length_each_row, row_each}
 use Rattle.table.proofs.Soundness.{passed}
-use Rattle.table.proofs.Stretching.{at_told, at_untold, eights_told, highest_ge, highest_le, up_to_highest}
+use Rattle.table.proofs.Stretching.{at_told, at_untold, highest_ge, highest_le, square_told, up_to_highest}
 
 -- THE CHECKS
 
@@ -55,22 +55,10 @@ module _ (v : View) (m : Message) (passes : take_refusal v m ≡ None) where
   pub not_behind : AllByRecursion (λ h. is_behind v h.0 h.1 ≡ false) (stretches m)
   not_behind = subst (AllByRecursion (λ h. is_behind v h.0 h.1 ≡ false)) (stretches_of 0 m) (none_found (is_behind v) 0 0 (records m) first.0)
 
-  pub not_ahead : AllByRecursion (λ h. is_ahead v h.0 h.1 ≡ false) (stretches m)
-  not_ahead = subst (AllByRecursion (λ h. is_ahead v h.0 h.1 ≡ false)) (stretches_of 0 m) (none_found (is_ahead v) 0 0 (records m) second.0)
-
   -- every interval begins at what this table has reached, or below it
   pub begun_within : AllByRecursion (λ h. h.1.from ≤ entry v h.0 mine h.1.site) (stretches m)
   begun_within =
       All-weaker (λ h. is_behind v h.0 h.1 ≡ false) (λ h. h.1.from ≤ entry v h.0 mine h.1.site) (λ h k. ltb-false (entry v h.0 mine h.1.site) h.1.from k) (stretches m) not_behind
-
-  -- and none says more of the own site than it has done
-  pub own_within : AllByRecursion (λ h. (h.1.site ≡ mine) → h.1.to ≤ entry v h.0 mine mine) (stretches m)
-  own_within =
-      All-weaker (λ h. is_ahead v h.0 h.1 ≡ false) (λ h. (h.1.site ≡ mine) → h.1.to ≤ entry v h.0 mine mine) (λ h k same.
-      ⊎_elim
-      (λ other. absurd (true≢false (sym (eq-eqb h.1.site mine same) ∙ other)))
-      (ltb-false (entry v h.0 mine mine) h.1.to)
-      (and_cases (eqb h.1.site mine) (ltb (entry v h.0 mine mine) h.1.to) k)) (stretches m) not_ahead
 
   pub room_left : length v.history + length (news v m) ≤ v.capacity
   room_left = leb-true (length v.history + length (news v m)) v.capacity (passed (leb (length v.history + length (news v m)) v.capacity) (by_history 16 v.capacity) None second.1).0
@@ -105,8 +93,8 @@ module _ (kind : Meaning) (v : View) (m : Message) (s : Sound kind v) (l : Lawfu
   sited a =
       all_kept_by (λ h. eqb h.0 a) (λ h. h.1.site < 8) (stretches m) (All-weaker (λ h. (h.0 < v.setup.articles) × LawfulInterval v.setup h.1) (λ h. h.1.site < 8) (λ h k. omega (arith, k.1.of_group, v.setup.few_sites)) (stretches m) lawful)
 
-  square_row : (a : ℕ) → a < length v.rows → Square (row v a)
-  square_row a lt = All-get_or Square v.rows a no_row lt s.square
+  square_row : (a : ℕ) → a < length v.rows → Square (row v a).known
+  square_row a lt = All-get_or (λ r. Square r.known) v.rows a no_row lt s.square
 
   none_past : (a q : ℕ) → length v.rows ≤ a → highest a q (stretches m) ≤ 0
   none_past a q past =
@@ -225,7 +213,7 @@ module _ (kind : Meaning) (step_fits : (f : ℤ) (o : ℕ) (a : ℤ) → SFits w
       worked = taken_worked;
       based = by_row (taken_row kind v m) v.rows (λ a r. SFits w64 r.base) (λ a _. s.based a) (λ a _. s.based a);
       each_article = length_each_row (taken_row kind v m) 0 v.rows ∙ s.each_article;
-      square = All-from_get_or Square u.rows no_row (λ a lt. let within : a < length v.rows = omega (arith, length_each_row (taken_row kind v m) 0 v.rows) in subst Square (sym (row_each (taken_row kind v m) v.rows a within)) (eights_told v.setup.own m.sender (own_lt kind v m s l) (sender_lt kind v m s l) (row v a).known (about kind v m s l a) (square_row kind v m s l a within)));
+      square = All-from_get_or (λ r. Square r.known) u.rows no_row (λ a lt. let within : a < length v.rows = omega (arith, length_each_row (taken_row kind v m) 0 v.rows) in subst (λ (r : Row). Square r.known) (sym (row_each (taken_row kind v m) v.rows a within)) (square_told v.setup.own m.sender (own_lt kind v m s l) (sender_lt kind v m s l) (row v a).known (about kind v m s l a) (square_row kind v m s l a within)));
       few = s.few;
       waiting = subst (AllWaiting kind v.setup u.clock 0) (sym none) tt;
       closed = s.closed;

@@ -5,7 +5,7 @@ use Rattle.action.specs.declared.refusals.Refusal.{Refusal}
 use Rattle.action.specs.Lawful.{by_table, unless}
 use Rattle.kind.specs.Meaning.{Meaning}
 use Rattle.kind.specs.Working.{working}
-use Rattle.row.specs.Passes.{is_up_to, least_in, least_of_in}
+use Rattle.row.specs.Passes.{is_up_to, least_in}
 use Rattle.table.specs.declared.faults.TableFault.{TableFault}
 use Rattle.row.specs.declared.rows.Row.{Row}
 use Rattle.table.specs.Faults.{shown}
@@ -14,10 +14,6 @@ use Rattle.row.specs.Entries.{each_row}
 
 abbrev pub archive_refusal : View → ℕ → Option Refusal
 archive_refusal v a = unless (not v.is_open) (by_table 2 0) (unless (nat_lt a v.setup.articles) (by_table 4 0) None)
-
--- the least of t and the article's known entries of site z
-abbrev pub least_of : View → ℕ → ℕ → ℕ → ℕ
-least_of v = least_of_in v.rows v.setup.sites
 
 -- what every site is known to have
 abbrev pub least : View → ℕ → ℕ

@@ -7,7 +7,6 @@ use Rattle.action.specs.declared.setups.Setup.{Setup}
 use Rattle.action.specs.Order.{Ascending}
 use Rattle.kind.specs.Meaning.{Meaning}
 use Rattle.kind.specs.Working.{knows_action, on, working}
-use Rattle.row.specs.declared.rows.Row.{Row}
 use Rattle.table.specs.View.{View, entry, row}
 
 -- an action that a table of this set-up may hold
@@ -35,9 +34,9 @@ abbrev pub AllWaiting : Meaning → Setup → ℕ → ℕ → List Action → Ty
 AllWaiting kind setup clock i [] = Unit {0}
 AllWaiting kind setup clock i (x ∷ xs) = Waiting kind setup clock i x × AllWaiting kind setup clock (suc i) xs
 
--- known entries for eight sites each
-abbrev pub Square : Row → Type 0
-Square r = (length r.known ≡ 8) × AllByRecursion (λ entries. length entries ≡ 8) r.known
+-- known entries of eight sites, of eight sites each
+abbrev pub Square : List (List ℕ) → Type 0
+Square known = (length known ≡ 8) × AllByRecursion (λ entries. length entries ≡ 8) known
 
 pub record Sound (kind : Meaning) (v : View) : Type 0 where
   -- the history is in strict order and within its capacity
@@ -55,7 +54,7 @@ pub record Sound (kind : Meaning) (v : View) : Type 0 where
   pub worked : (a : ℕ) → a < 64 → (row v a).kept ≡ working kind.steps (row v a).base (on a v.history)
   pub based : (a : ℕ) → FitsSigned w64 (row v a).base
   pub each_article : length v.rows ≡ 64
-  pub square : AllByRecursion Square v.rows
+  pub square : AllByRecursion (λ r. Square r.known) v.rows
   -- only an open transaction has pending actions
   pub few : length v.pending ≤ 16
   pub waiting : AllWaiting kind v.setup v.clock 0 v.pending
