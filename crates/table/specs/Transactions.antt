@@ -43,7 +43,7 @@ abbrev pub Opened : Meaning → View → Result Ticket TableFault → View → T
 Opened kind v (Ok t) w = (open_refusal v ≡ None) × (t ≡ ticket kind v) × (w ≡ opened v)
 Opened kind v (Err e) w = (open_refusal v ≡ Some (shown e)) × (w ≡ v)
 
--- is this the ticket of the table's open transaction?
+-- does the ticket fit: is a transaction open, and are its four numbers the table's?
 abbrev pub holds : Meaning → View → Ticket → Bool
 holds kind v t =
     v.is_open && (t.group == v.setup.group && (t.kind == kind.number && (t.site == v.setup.own && t.clock == v.clock)))

@@ -2,8 +2,6 @@
 ghost use Rattle.std.specs.Prelude.{◌+◌, not, length, nat_le, nat_lt};
 ghost use Rattle.std.specs.Option.{is_some};
 ghost use Rattle.table.specs.Faults.{Passes};
-ghost use Rattle.history.specs.declared.faults.HistoryFault.TheVariants.{Full};
-ghost use Rattle.table.specs.declared.faults.TableFault.TheVariants.{AlreadyOpen as IsOpen, InHistory as IsInHistory, NoArticle as IsNoArticle, NoSite as IsNoSite};
 
 use crate::faults::TableFault;
 use crate::state::State;
@@ -13,7 +11,7 @@ use history::{History, HistoryFault};
 impl State {
     // No transaction is open.
     pub(crate) fn check_closed(&self) -> Result<(), TableFault>
-        ensures { Passes (not (is_some self.now.transaction)) IsOpen result }
+        ensures { Passes (not (is_some self.now.transaction)) TableFault.AlreadyOpen result }
     {
         if self.transaction.is_some() {
             return Err(TableFault::AlreadyOpen);
@@ -23,7 +21,7 @@ impl State {
 
     // The article is one of the group's.
     pub(crate) fn check_article(&self, article: u8) -> Result<(), TableFault>
-        ensures { Passes (nat_lt article self.now.ledger.setup.articles) IsNoArticle result }
+        ensures { Passes (nat_lt article self.now.ledger.setup.articles) TableFault.NoArticle result }
     {
         if article >= self.ledger.setup.articles {
             return Err(TableFault::NoArticle);
@@ -33,7 +31,7 @@ impl State {
 
     // The site is one of the group's.
     pub(crate) fn check_site(&self, site: u8) -> Result<(), TableFault>
-        ensures { Passes (nat_lt site self.now.ledger.setup.sites) IsNoSite result }
+        ensures { Passes (nat_lt site self.now.ledger.setup.sites) TableFault.NoSite result }
     {
         if site >= self.ledger.setup.sites {
             return Err(TableFault::NoSite);
@@ -45,7 +43,7 @@ impl State {
 impl<H: History> Store<H> {
     // The history has room for so many more.
     pub(crate) fn check_room(&self, more: usize) -> Result<(), TableFault>
-        ensures { Passes (nat_le (length self.now.history + more) self.now.capacity) (IsInHistory (Full self.now.capacity)) result }
+        ensures { Passes (nat_le (length self.now.history + more) self.now.capacity) (TableFault.InHistory (HistoryFault.Full self.now.capacity)) result }
     {
         let capacity = self.history.capacity();
         if more > capacity - self.history.count() {

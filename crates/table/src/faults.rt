@@ -1,7 +1,7 @@
 ghost use Rattle.std.specs.Prelude.{◌≡◌};
 ghost use Rattle.action.specs.Lawful.{by_table};
 ghost use Rattle.table.specs.Faults.{shown};
-ghost use Rattle.table.specs.declared.faults.TableFault.TheVariants.{InHistory as Carried, InReader as CarriedReader};
+ghost use Rattle.table.specs.declared.faults.TableFault.TheVariants.{InHistory, InReader};
 
 use action::{Layer, Refusal};
 use history::HistoryFault;
@@ -28,7 +28,7 @@ pub enum TableFault {
 }
 
 impl From<HistoryFault> for TableFault {
-    ghost from_gives = { λ e r. r ≡ Carried e };
+    ghost from_gives = { λ e r. r ≡ InHistory e };
 
     fn from(fault: HistoryFault) -> TableFault {
         TableFault::InHistory(fault)
@@ -36,7 +36,7 @@ impl From<HistoryFault> for TableFault {
 }
 
 impl From<ReaderFault> for TableFault {
-    ghost from_gives = { λ e r. r ≡ CarriedReader e };
+    ghost from_gives = { λ e r. r ≡ InReader e };
 
     fn from(fault: ReaderFault) -> TableFault {
         TableFault::InReader(fault)

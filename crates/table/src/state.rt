@@ -34,7 +34,7 @@ pub(crate) fn written_in(transaction: &Option<Pending>) -> &[Action]
 }
 
 impl State {
-    // Is this the ticket of the open transaction?
+    // Does the ticket fit: is a transaction open, and are its four numbers the table's?
     pub(crate) fn holds<K: Kind>(&self, ticket: &Ticket) -> bool
         ensures { result ≡ holds K.means (bare self.now) ticket.now }
     {

@@ -63,7 +63,7 @@ impl<H: History> Store<H> {
             operation,
             amount,
         };
-        // The ticket is that of an open transaction.
+        // A transaction is open, since the ticket fits.
         match &mut state.transaction {
             Some(pending) => pending.push(action),
             None => unreachable(),
