@@ -69,7 +69,6 @@ module _ (v : View) where
   pub wrote_le : (k n : ℕ) → k ≤ n → length (wrote k) ≤ length (wrote n)
   wrote_le k n le = grown (λ j. length (wrote j)) grows k n le
 
-  -- fewer articles were written than there are writes below them, and none is forgotten
   below_grows : (k : ℕ) → length (below k) ≤ length (below (k + 1))
   below_grows k =
       ⊎_elim (λ is. omega (arith, ap length (below_more k is), length-append (below k) (k ∷ []))) (λ is. omega (arith, ap length (below_same k is))) (cases_Bool (is_written v k))
@@ -77,6 +76,7 @@ module _ (v : View) where
   pub below_le : (k n : ℕ) → k ≤ n → length (below k) ≤ length (below n)
   below_le k n le = grown (λ j. length (below j)) below_grows k n le
 
+  -- no more articles were written than there are writes on them
   pub few_below : (k : ℕ) → length (below k) ≤ count_by (λ x. ltb x.article k) v.pending
   few_below zero = omega arith
   few_below (suc k) =

@@ -1,5 +1,6 @@
--- Every call keeps a sound table sound. Assumes nothing.
-use Rattle.std.proofs.Common.{◌≡◌, ℕ, ◌+◌, ◌<◌, ◌≤◌, max, Bool, true, false, cond, List, [], ◌++◌, length, get_or, ℤ, None, Ok, Err, Option, Result, sym, refl, ap, ◌∙◌, subst, ⊎_elim, arith, w32, w64, SFits}
+-- A new table is sound, and a transaction's calls keep a sound table sound: open, write, abandon and commit.
+-- Assumes nothing.
+use Rattle.std.proofs.Common.{◌≡◌, ℕ, ◌+◌, ◌<◌, ◌≤◌, max, Bool, true, false, cond, List, [], ◌∷◌, ◌++◌, length, get_or, ℤ, None, Ok, Err, Option, Result, sym, refl, ap, ◌∙◌, subst, ⊎_elim, arith, w32, w64, SFits}
 use Rattle.std.specs.List.{AllByRecursion}
 use Rattle.std.proofs.ByRecursion.{All-append, All-from_get_or, All-get_or, All-weaker}
 use Rattle.std.proofs.lemmas.List.{get_or_past, get_or-replicate, length-append, length_push}
@@ -15,8 +16,8 @@ use Rattle.kind.proofs.Workings.{on_append, working_append}
 use Rattle.table.specs.declared.faults.TableFault.{TableFault}
 use Rattle.row.specs.declared.rows.Row.{Row}
 use Rattle.table.specs.declared.tickets.Ticket.{Ticket}
-use Rattle.table.specs.Sound.{Fitting, Sound, Square, Waiting}
-use Rattle.table.specs.Transactions.{Abandoned, Committed, Opened, Wrote, committed, committed_row, holds, latest, new_action, next_time, opened, with_transaction, written}
+use Rattle.table.specs.Sound.{AllWaiting, Fitting, Sound, Square, Waiting}
+use Rattle.table.specs.Transactions.{Abandoned, Committed, Opened, Wrote, abandoned, committed, committed_row, holds, latest, new_action, next_time, opened, with_transaction, written}
 use Rattle.table.specs.View.{View, entry, fresh, row}
 use Rattle.row.specs.Entries.{at, no_row, raised, start_row}
 use Rattle.table.proofs.Entries.{at_raised, at_raised_column, at_raised_ge, at_raised_row, at_unknown, square_raised}
@@ -67,8 +68,9 @@ module _ (kind : Meaning) (setup : Setup) (capacity : ℕ) (few_places : capacit
 -- OPEN, WRITE AND ABANDON
 
 module _ (kind : Meaning) (v : View) (s : Sound kind v) where
-  pub opened_sound : Sound kind (opened v)
-  opened_sound = record {
+  -- only what Sound says of the transaction is left to show
+  with_transaction_sound : (is_open : Bool) (pending : List Action) → v.clock + length pending ≤ 4000000000 → length pending ≤ 16 → AllWaiting kind v.setup v.clock 0 pending → (is_open ≡ false → pending ≡ []) → Sound kind (with_transaction is_open pending v)
+  with_transaction_sound is_open pending in_time few waiting closed = record {
     ordered = s.ordered;
     held = s.held;
     few_places = s.few_places;
@@ -76,53 +78,27 @@ module _ (kind : Meaning) (v : View) (s : Sound kind v) where
     reached = s.reached;
     believed = s.believed;
     clocked = s.clocked;
-    in_time = s.in_time;
+    in_time = in_time;
     worked = s.worked;
     based = s.based;
     each_article = s.each_article;
     square = s.square;
-    few = s.few;
-    waiting = s.waiting;
-    closed = λ e. absurd (false≢true (sym e));
+    few = few;
+    waiting = waiting;
+    closed = closed;
   }
 
-  pub abandoned_sound : Sound kind (with_transaction false [] v)
-  abandoned_sound = record {
-    ordered = s.ordered;
-    held = s.held;
-    few_places = s.few_places;
-    fitting = s.fitting;
-    reached = s.reached;
-    believed = s.believed;
-    clocked = s.clocked;
-    in_time = omega (arith, s.in_time);
-    worked = s.worked;
-    based = s.based;
-    each_article = s.each_article;
-    square = s.square;
-    few = omega arith;
-    waiting = tt;
-    closed = λ _. refl;
-  }
+  pub opened_sound : Sound kind (opened v)
+  opened_sound = with_transaction_sound true v.pending s.in_time s.few s.waiting (λ e. absurd (false≢true (sym e)))
+
+  pub abandoned_sound : Sound kind (abandoned v)
+  abandoned_sound = with_transaction_sound false [] (omega (arith, s.in_time)) (omega arith) tt (λ _. refl)
 
   pub written_sound : (x : Action) → v.is_open ≡ true → Waiting kind v.setup v.clock (length v.pending) x → length v.pending < 16 → next_time v ≤ 4000000000 → Sound kind (written v x)
-  written_sound x is_open w few late = record {
-    ordered = s.ordered;
-    held = s.held;
-    few_places = s.few_places;
-    fitting = s.fitting;
-    reached = s.reached;
-    believed = s.believed;
-    clocked = s.clocked;
-    in_time = omega (arith, length_push v.pending x);
-    worked = s.worked;
-    based = s.based;
-    each_article = s.each_article;
-    square = s.square;
-    few = omega (arith, length_push v.pending x);
-    waiting = waiting_push kind v.setup v.clock 0 v.pending x s.waiting (subst (λ (n : ℕ). Waiting kind v.setup v.clock n x) (omega arith) w);
-    closed = λ e. absurd (false≢true (sym e ∙ is_open));
-  }
+  written_sound x is_open w few late =
+      let waits : Waiting kind v.setup v.clock (0 + length v.pending) x = subst (λ (n : ℕ). Waiting kind v.setup v.clock n x) (omega arith) w in
+      let long = length_push v.pending x in
+      with_transaction_sound v.is_open (v.pending ++ (x ∷ [])) (omega (arith, long)) (omega (arith, long)) (waiting_push kind v.setup v.clock 0 v.pending x s.waiting waits) (λ e. absurd (false≢true (sym e ∙ is_open)))
 
 -- COMMIT
 
