@@ -1,18 +1,18 @@
--- Pending actions. Assumes nothing.
-use Rattle.std.proofs.Common.{◌≡◌, ℕ, suc, ◌+◌, ◌<◌, ◌≤◌, max, cond, eqb, ◌⊎◌, List, [], ◌∷◌, ◌++◌, length, fold, sym, refl, ap, subst, inl, inr, ⊎_elim, arith}
+-- Pending actions, and the latest of them on an article. Assumes nothing.
+use Rattle.std.proofs.Common.{◌≡◌, ℕ, suc, ◌+◌, ◌<◌, ◌≤◌, eqb, ◌⊎◌, List, [], ◌∷◌, ◌++◌, length, refl, ap, subst, inl, inr, ⊎_elim, arith}
 use Rattle.std.specs.List.{ContainsAt as Has, AllByRecursion}
-use Rattle.std.proofs.ByRecursion.{all_kept_by, All-weaker}
-use Rattle.std.proofs.lemmas.Bool.{cases_eq, eq-eqb, ne_eqb}
+use Rattle.std.proofs.ByRecursion.{all-has, all_kept_by, All-weaker}
+use Rattle.std.proofs.lemmas.Bool.{eq-eqb}
 use Rattle.action.specs.declared.orders.Action.{Action}
 use Rattle.action.specs.declared.setups.Setup.{Setup}
 use Rattle.action.specs.Order.{Apart, Ascending, Distinct}
-use Rattle.action.proofs.Members.{has_first, has_later}
+use Rattle.action.proofs.Members.{all_from_has, has_first, has_kept_by, has_later}
 use Rattle.action.proofs.Sequence.{leads_later}
 use Rattle.kind.specs.Meaning.{Meaning}
 use Rattle.kind.specs.Working.{on}
 use Rattle.table.specs.Sound.{AllWaiting, Fitting, Waiting}
 use Rattle.table.specs.Transactions.{latest}
-use Rattle.table.proofs.Greatest.{greatest_from, greatest_le}
+use Rattle.table.proofs.Greatest.{greatest_ge, greatest_le}
 
 module _ (kind : Meaning) (setup : Setup) (clock : ℕ) where
   pub waiting_push : (i : ℕ) (xs : List Action) (x : Action) → AllWaiting kind setup clock i xs → Waiting kind setup clock (i + length xs) x → AllWaiting kind setup clock i (xs ++ (x ∷ []))
@@ -72,32 +72,12 @@ module _ (kind : Meaning) (setup : Setup) (clock : ℕ) where
   waiting_own i [] h = tt
   waiting_own i (x ∷ xs) h = (h.0.coordinated, waiting_own (suc i) xs h.1)
 
--- the greatest of t and the times on an article
-abbrev times : ℕ → List Action → ℕ
-times t xs = fold (λ t x. max t x.time) t xs
-
-all_on : (P : Action → Type 0) (a : ℕ) (xs : List Action) → AllByRecursion P xs → AllByRecursion P (on a xs)
-all_on P a xs h = all_kept_by (λ x. eqb x.article a) P xs h
-
 pub latest_le : (c a : ℕ) (xs : List Action) → AllByRecursion (λ x. x.time ≤ c) xs → latest a xs ≤ c
-latest_le c a xs h = greatest_le (λ x. x.time) c 0 (on a xs) (omega arith) (all_on (λ x. x.time ≤ c) a xs h)
-
-on_head : (a : ℕ) (x : Action) (xs : List Action) → x.article ≡ a → on a (x ∷ xs) ≡ x ∷ on a xs
-on_head a x xs same = ap (λ b. cond b (x ∷ on a xs) (on a xs)) (eq-eqb x.article a same)
-
-on_tail : (a : ℕ) (x : Action) (xs : List Action) → (x.article ≡ a → ⊥) → on a (x ∷ xs) ≡ on a xs
-on_tail a x xs other = ap (λ b. cond b (x ∷ on a xs) (on a xs)) (ne_eqb x.article a other)
-
-latest_from : (t a : ℕ) (xs : List Action) → AllByRecursion (λ x. x.article ≡ a → x.time ≤ times t (on a xs)) xs
-latest_from t a [] = tt
-latest_from t a (x ∷ xs) =
-    ⊎_elim
-    (λ same. let on-is : on a (x ∷ xs) ≡ x ∷ on a xs = on_head a x xs same in
-    ((λ _. subst (λ l. x.time ≤ times t l) (sym on-is) (omega (arith, greatest_from (λ x. x.time) (max t x.time) (on a xs)))), subst (λ l. AllByRecursion (λ y. y.article ≡ a → y.time ≤ times t l) xs) (sym on-is) (latest_from (max t x.time) a xs)))
-    (λ other. let on-is : on a (x ∷ xs) ≡ on a xs = on_tail a x xs other in
-    ((λ e. absurd (other e)), subst (λ l. AllByRecursion (λ y. y.article ≡ a → y.time ≤ times t l) xs) (sym on-is) (latest_from t a xs)))
-    (cases_eq x.article a)
+latest_le c a xs h = greatest_le (λ x. x.time) c 0 (on a xs) (omega arith) (all_kept_by (λ x. eqb x.article a) (λ x. x.time ≤ c) xs h)
 
 -- no time on an article is later than the latest on it
 pub latest_ge : (a : ℕ) (xs : List Action) → AllByRecursion (λ x. x.article ≡ a → x.time ≤ latest a xs) xs
-latest_ge a xs = latest_from 0 a xs
+latest_ge a xs =
+    all_from_has (λ x. x.article ≡ a → x.time ≤ latest a xs) xs (λ x in_xs same.
+    let on_it : Has (on a xs) x = has_kept_by (λ x. eqb x.article a) xs x in_xs (eq-eqb x.article a same) in
+    all-has (λ x. x.time ≤ latest a xs) (on a xs) x (greatest_ge (λ (x : Action). x.time) 0 (on a xs)) on_it)
