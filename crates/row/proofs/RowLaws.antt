@@ -1,12 +1,12 @@
 -- Changes to rows, action by action and article by article. Assumes nothing.
-use Rattle.std.proofs.Common.{◌≡◌, ℕ, zero, suc, ◌+◌, ◌<◌, ◌≤◌, max, cond, eqb, List, [], ◌∷◌, length, get_or, set, ℤ, fold, filter, sym, refl, ap, ◌∙◌, subst, ⊎_elim, add-zero, zero-add, arith}
-use Rattle.std.proofs.lemmas.List.{ext_get_or, get_or_past, get_or-set_other, get_or-set_same, length-set, set-get_or, set_past, set-set}
+use Rattle.std.proofs.Common.{◌≡◌, ℕ, zero, suc, ◌+◌, ◌<◌, ◌≤◌, max, cond, eqb, List, [], ◌∷◌, map, length, get_or, set, ℤ, fold, filter, sym, refl, ap, ◌∙◌, subst, ⊎_elim, add-zero, zero-add, arith}
+use Rattle.std.proofs.lemmas.List.{ext_get_or, get_or-map, get_or_past, get_or-set_other, get_or-set_same, length-map, length-set, set-get_or, set_past, set-set}
 use Rattle.std.proofs.lemmas.Bool.{cases_eq, cases_lt, eq-eqb, ne_eqb}
 use Rattle.action.specs.declared.orders.Action.{Action}
 use Rattle.kind.specs.Working.{on, working}
 use Rattle.message.specs.declared.records.Interval.{Interval}
 use Rattle.row.specs.declared.rows.Row.{Row}
-use Rattle.row.specs.Rows.{on_article_row, on_row, raised_row, stepped_row}
+use Rattle.row.specs.Rows.{on_article_row, on_row, raised_row, restarted, reworked_rows, stepped_row, stepped_rows}
 use Rattle.row.specs.Passes.{raised_by}
 use Rattle.row.specs.Entries.{at, each_row, no_row, raised}
 
@@ -64,6 +64,21 @@ module _ (change : Action → Row → Row) where
 pub stepped_by : (steps : ℤ → ℕ → ℤ → ℤ) (r : Row) (xs : List Action) → fold (λ r x. stepped_row steps x r) r xs ≡ record { base = r.base; kept = working steps r.kept xs; known = r.known }
 stepped_by steps r [] = refl
 stepped_by steps r (x ∷ xs) = stepped_by steps (stepped_row steps x r) xs
+
+module _ (steps : ℤ → ℕ → ℤ → ℤ) (rows : List Row) (xs : List Action) where
+  pub length_stepped : length (stepped_rows steps rows xs) ≡ length rows
+  length_stepped = length_on_rows (stepped_row steps) rows xs
+
+  pub row_stepped : (a : ℕ) → a < length rows → get_or (stepped_rows steps rows xs) a no_row ≡ record { base = (get_or rows a no_row).base; kept = working steps (get_or rows a no_row).kept (on a xs); known = (get_or rows a no_row).known }
+  row_stepped a within = row_on_rows (stepped_row steps) rows xs a within ∙ stepped_by steps (get_or rows a no_row) (on a xs)
+
+module _ (steps : ℤ → ℕ → ℤ → ℤ) (rows : List Row) (xs : List Action) where
+  pub length_reworked : length (reworked_rows steps rows xs) ≡ length rows
+  length_reworked = length_stepped steps (map restarted rows) xs ∙ length-map rows restarted
+
+  pub row_reworked : (a : ℕ) → a < length rows → get_or (reworked_rows steps rows xs) a no_row ≡ record { base = (get_or rows a no_row).base; kept = working steps (get_or rows a no_row).base (on a xs); known = (get_or rows a no_row).known }
+  row_reworked a within =
+      row_stepped steps (map restarted rows) xs a (omega (arith, length-map rows restarted)) ∙ ap (λ (r : Row). record { base = r.base; kept = working steps r.kept (on a xs); known = r.known }) (get_or-map restarted rows a no_row no_row within)
 
 -- an entry of one list raised twice, and of a list of lists
 twice : (row : List ℕ) (q s t : ℕ) → set (set row q (max (get_or row q 0) s)) q (max (get_or (set row q (max (get_or row q 0) s)) q 0) t) ≡ set row q (max (get_or row q 0) (max s t))

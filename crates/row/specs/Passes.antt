@@ -1,8 +1,9 @@
 -- What the passes over a message and over the history look for, by rows. Assumes nothing.
-use Rattle.std.specs.Prelude.{ℕ, min, Bool, ◌&&◌, List, fold, ◌==◌, nat_le, nat_lt}
+use Rattle.std.specs.Prelude.{ℕ, min, max, Bool, ◌&&◌, List, fold, filter, ◌==◌, nat_le, nat_lt}
 use Rattle.std.specs.List.{range_with_len}
 use Rattle.action.specs.declared.orders.Action.{Action}
 use Rattle.message.specs.declared.records.Interval.{Interval}
+use Rattle.message.specs.Walks.{actions_of, records_in}
 use Rattle.row.specs.declared.rows.Row.{Row}
 use Rattle.row.specs.Entries.{entry_in, raised}
 
@@ -11,6 +12,10 @@ use Rattle.row.specs.Entries.{entry_in, raised}
 -- a table of these rows and this site has not reached the action yet
 abbrev pub is_new_in : List Row → ℕ → Action → Bool
 is_new_in rows own x = nat_lt (entry_in rows x.article own x.coordinator) x.time
+
+-- the actions of a message's bytes that it has not reached
+abbrev pub new_actions : List Row → ℕ → List ℕ → List Action
+new_actions rows own bytes = filter (is_new_in rows own) (actions_of (records_in bytes))
 
 -- the interval begins above what this table has reached
 abbrev pub is_behind_in : List Row → ℕ → ℕ → Interval → Bool
@@ -23,6 +28,10 @@ is_ahead_in rows own a i = i.site == own && nat_lt (entry_in rows a own own) i.t
 -- this table and the sender have what the interval carries
 abbrev pub raised_by : ℕ → ℕ → List (List ℕ) → ℕ × Interval → List (List ℕ)
 raised_by own sender known h = raised (raised known own h.1.site h.1.to) sender h.1.site h.1.to
+
+-- the latest of t and of the times that intervals go up to
+abbrev pub latest_to : ℕ → List (ℕ × Interval) → ℕ
+latest_to = fold (λ t (h : ℕ × Interval). max t h.1.to)
 
 -- ARCHIVING
 

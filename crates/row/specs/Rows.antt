@@ -1,7 +1,8 @@
 -- What actions do to the rows of a table. Assumes nothing.
-use Rattle.std.specs.Prelude.{ℕ, List, ℤ, slice_index_or, slice_set}
+use Rattle.std.specs.Prelude.{ℕ, List, map, ℤ, fold, slice_index_or, slice_set}
 use Rattle.action.specs.declared.orders.Action.{Action}
 use Rattle.message.specs.declared.records.Interval.{Interval}
+use Rattle.message.specs.Walks.{intervals_of, record_in, records_in, sender_in}
 use Rattle.row.specs.declared.rows.Row.{Row}
 use Rattle.row.specs.Entries.{no_row, raised}
 
@@ -27,6 +28,18 @@ on_article_row article change rows x = changed_row (change x) rows (article x)
 abbrev pub on_row : (Action → Row → Row) → List Row → Action → List Row
 on_row change = on_article_row (λ x. x.article) change
 
+-- the kept figures stepped by actions, in their order
+abbrev pub stepped_rows : (ℤ → ℕ → ℤ → ℤ) → List Row → List Action → List Row
+stepped_rows steps = fold (on_row (stepped_row steps))
+
+-- the kept figures worked again, from the bases by actions
+abbrev pub reworked_rows : (ℤ → ℕ → ℤ → ℤ) → List Row → List Action → List Row
+reworked_rows steps rows = stepped_rows steps (map restarted rows)
+
 -- this site and the sender have what an interval on the article carries
 abbrev pub raised_rows : ℕ → ℕ → List Row → ℕ × Interval → List Row
 raised_rows own sender = on_article_row (λ h. h.0) (λ h r. raised_row sender h.1.site h.1.to (raised_row own h.1.site h.1.to r))
+
+-- the same of all intervals of a message's bytes
+abbrev pub raised_by_message : ℕ → List ℕ → List Row → List Row
+raised_by_message own bytes rows = fold (raised_rows own (sender_in (record_in bytes))) rows (intervals_of 0 (records_in bytes))

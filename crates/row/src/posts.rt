@@ -2,7 +2,7 @@
 ghost use Rattle.std.specs.Prelude.{◌≡◌, map, if◌then◌else◌, fold};
 ghost use Rattle.std.specs.Fn.{FnOnceReturnsAtMut};
 ghost use Rattle.row.specs.declared.rows.Row.{Row as ARow};
-ghost use Rattle.row.specs.Rows.{changed_row, on_row, raised_row, restarted, stepped_row};
+ghost use Rattle.row.specs.Rows.{changed_row, on_row, raised_row, restarted, reworked_rows, stepped_row, stepped_rows};
 
 use crate::ledgers::Ledger;
 use crate::rows::Row;
@@ -14,7 +14,8 @@ impl Ledger {
     // Changes the row of an article, where there is one, as the closure does.
     pub(crate) fn on_row<F: FnOnce(&mut Row)>(&mut self, article: u8, change: F)
         requires { F.IsAlwaysCallable change }
-        ensures rows { (f : ARow → ARow) → ((r s : ARow) → FnOnceReturnsAtMut F.FnOnce change r tt s → s ≡ f r) → self.new.rows ≡ changed_row f self.old.rows article }
+        ensures rows { (f : ARow → ARow) → ((r s : ARow) → FnOnceReturnsAtMut F.FnOnce change r tt s → s ≡ f r)
+                       → self.new.rows ≡ changed_row f self.old.rows article }
         ensures fixed { self.new.setup ≡ self.old.setup }
     {
         // By an index and not `get_mut`, for the reason that `Row::raise` has.
@@ -26,7 +27,8 @@ impl Ledger {
 
     // Raises the own entry of each action's article to the action's time.
     pub fn raise_posted(&mut self, actions: &[Action])
-        ensures rows { self.new.rows ≡ fold (on_row (λ x. raised_row self.old.setup.own self.old.setup.own x.time)) self.old.rows actions.now }
+        ensures rows { let own = self.old.setup.own in
+                       self.new.rows ≡ fold (on_row (λ x. raised_row own own x.time)) self.old.rows actions.now }
         ensures fixed { self.new.setup ≡ self.old.setup }
     {
         let own = self.setup.own;
@@ -46,7 +48,7 @@ impl Ledger {
     // Steps the kept figures by the actions, in order.
     #[tactic(auto, using(std::proofs::lemmas::List::Sums::fold_more))]
     fn step_all<K: Kind>(&mut self, actions: &[Action])
-        ensures rows { self.new.rows ≡ fold (on_row (stepped_row K.means.steps)) self.old.rows actions.now }
+        ensures rows { self.new.rows ≡ stepped_rows K.means.steps self.old.rows actions.now }
         ensures fixed { self.new.setup ≡ self.old.setup }
     {
         for action in actions {
@@ -67,7 +69,7 @@ impl Ledger {
 
     // Works every figure again, from its base by the history.
     pub(crate) fn rework<K: Kind, H: History>(&mut self, history: &H)
-        ensures rows { self.new.rows ≡ fold (on_row (stepped_row K.means.steps)) (map restarted self.old.rows) (H.items history.now) }
+        ensures rows { self.new.rows ≡ reworked_rows K.means.steps self.old.rows (H.items history.now) }
         ensures fixed { self.new.setup ≡ self.old.setup }
     {
         self.restart();
@@ -79,7 +81,9 @@ impl Ledger {
     // Works the figures after new actions have gone into the history: a commuting kind steps the kept
     // figures by the new actions alone, any other works again.
     pub fn work<K: Kind, H: History>(&mut self, history: &H, new: &[Action])
-        ensures rows { self.new.rows ≡ (if K.means.commutes then fold (on_row (stepped_row K.means.steps)) self.old.rows new.now else fold (on_row (stepped_row K.means.steps)) (map restarted self.old.rows) (H.items history.now)) }
+        ensures rows { self.new.rows ≡ (if K.means.commutes
+                       then stepped_rows K.means.steps self.old.rows new.now
+                       else reworked_rows K.means.steps self.old.rows (H.items history.now)) }
         ensures fixed { self.new.setup ≡ self.old.setup }
     {
         if K::is_commuting() {

@@ -1,10 +1,10 @@
 // The passes over a checked message that record it.
-ghost use Rattle.std.specs.Prelude.{◌≡◌, ◌+◌, ◌≤◌, max, map, length, if◌then◌else◌, fold, filter};
+ghost use Rattle.std.specs.Prelude.{◌≡◌, ◌+◌, ◌≤◌, length, if◌then◌else◌, fold};
 ghost use Rattle.action.specs.Order.{placed};
 ghost use Rattle.message.specs.Found.{told};
-ghost use Rattle.message.specs.Walks.{actions_of, intervals_of, record_in, records_in, sender_in};
-ghost use Rattle.row.specs.Rows.{on_row, raised_rows, restarted, stepped_row};
-ghost use Rattle.row.specs.Passes.{is_new_in};
+ghost use Rattle.message.specs.Walks.{intervals_of, records_in};
+ghost use Rattle.row.specs.Passes.{latest_to, new_actions};
+ghost use Rattle.row.specs.Rows.{raised_by_message, raised_rows, reworked_rows, stepped_rows};
 
 use crate::ledgers::Ledger;
 use crate::places::insert_in_order;
@@ -15,7 +15,7 @@ use message::{Actions, Intervals, Stretch, sender_of};
 impl Ledger {
     // How many of the message's actions are new to the table.
     pub fn count_new(&self, bytes: &[u8]) -> usize
-        ensures { result ≡ length (filter (is_new_in self.now.rows self.now.setup.own) (actions_of (records_in bytes.now))) }
+        ensures { result ≡ length (new_actions self.now.rows self.now.setup.own bytes.now) }
     {
         Actions::new(bytes)
             .filter(|action| self.is_new(action))
@@ -24,8 +24,10 @@ impl Ledger {
 
     // Puts the message's new actions at their places in the history.
     pub fn insert_new<H: History>(&self, history: &mut H, bytes: &[u8])
-        requires { length (H.items history.old) + length (filter (is_new_in self.now.rows self.now.setup.own) (actions_of (records_in bytes.now))) ≤ H.room history.old }
-        ensures list { H.items history.new ≡ fold placed (H.items history.old) (filter (is_new_in self.now.rows self.now.setup.own) (actions_of (records_in bytes.now))) }
+        requires { length (H.items history.old) + length (new_actions self.now.rows self.now.setup.own bytes.now)
+                   ≤ H.room history.old }
+        ensures list { H.items history.new
+                       ≡ fold placed (H.items history.old) (new_actions self.now.rows self.now.setup.own bytes.now) }
         ensures fixed { H.room history.new ≡ H.room history.old }
     {
         for action in Actions::new(bytes) {
@@ -39,7 +41,8 @@ impl Ledger {
     // not change what is new.
     #[tactic(auto, using(crate::proofs::Stepping::entry_stepped))]
     fn step_new<K: Kind>(&mut self, bytes: &[u8])
-        ensures rows { self.new.rows ≡ fold (on_row (stepped_row K.means.steps)) self.old.rows (filter (is_new_in self.old.rows self.old.setup.own) (actions_of (records_in bytes.now))) }
+        ensures rows { self.new.rows ≡ stepped_rows K.means.steps self.old.rows
+                       (new_actions self.old.rows self.old.setup.own bytes.now) }
         ensures fixed { self.new.setup ≡ self.old.setup }
     {
         for carried in Actions::new(bytes) {
@@ -65,8 +68,8 @@ impl Ledger {
     // Raises the entries by all intervals of the message, and answers the clock raised to the greatest
     // time that they go up to.
     fn raise_all(&mut self, bytes: &[u8], clock: u32) -> u32
-        ensures times { result ≡ fold (λ t h. max t h.1.to) clock (intervals_of 0 (records_in bytes.now)) }
-        ensures rows { self.new.rows ≡ fold (raised_rows self.old.setup.own (sender_in (record_in bytes.now))) self.old.rows (intervals_of 0 (records_in bytes.now)) }
+        ensures times { result ≡ latest_to clock (intervals_of 0 (records_in bytes.now)) }
+        ensures rows { self.new.rows ≡ raised_by_message self.old.setup.own bytes.now self.old.rows }
         ensures fixed { self.new.setup ≡ self.old.setup }
     {
         let sender = sender_of(bytes);
@@ -82,8 +85,14 @@ impl Ledger {
     // commuting kind steps the kept figures by these alone, any other works again. Answers the clock
     // raised to the greatest time that the message goes up to.
     pub fn record<K: Kind, H: History>(&mut self, history: &H, bytes: &[u8], clock: u32) -> u32
-        ensures times { result ≡ fold (λ t h. max t h.1.to) clock (intervals_of 0 (records_in bytes.now)) }
-        ensures rows { let raise = raised_rows self.old.setup.own (sender_in (record_in bytes.now)) in self.new.rows ≡ (if K.means.commutes then fold raise (fold (on_row (stepped_row K.means.steps)) self.old.rows (filter (is_new_in self.old.rows self.old.setup.own) (actions_of (records_in bytes.now)))) (intervals_of 0 (records_in bytes.now)) else fold (on_row (stepped_row K.means.steps)) (map restarted (fold raise self.old.rows (intervals_of 0 (records_in bytes.now)))) (H.items history.now)) }
+        ensures times { result ≡ latest_to clock (intervals_of 0 (records_in bytes.now)) }
+        ensures rows { let steps = K.means.steps in
+                       let own = self.old.setup.own in
+                       let news = new_actions self.old.rows own bytes.now in
+                       let raise = raised_by_message own bytes.now in
+                       self.new.rows ≡ (if K.means.commutes
+                       then raise (stepped_rows steps self.old.rows news)
+                       else reworked_rows steps (raise self.old.rows) (H.items history.now)) }
         ensures fixed { self.new.setup ≡ self.old.setup }
     {
         if K::is_commuting() {

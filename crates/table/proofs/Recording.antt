@@ -1,18 +1,16 @@
 -- What taking a message does to the rows. Assumes nothing.
-use Rattle.std.proofs.Common.{◌≡◌, ℕ, ◌<◌, Bool, true, false, cond, eqb, List, map, length, get_or, fold, filter, refl, ap, ◌∙◌, arith}
-use Rattle.std.proofs.lemmas.List.{get_or-map, length-map}
-use Rattle.action.specs.declared.orders.Action.{Action}
+use Rattle.std.proofs.Common.{◌≡◌, ℕ, ◌<◌, Bool, true, false, cond, eqb, List, length, get_or, fold, filter, refl, ap, ◌∙◌, arith}
 use Rattle.kind.specs.Meaning.{Meaning}
 use Rattle.kind.specs.Working.{on, working}
 use Rattle.message.specs.declared.records.Interval.{Interval}
 use Rattle.message.specs.Format.{Message, stretches}
 use Rattle.row.specs.declared.rows.Row.{Row}
-use Rattle.row.specs.Rows.{on_row, raised_row, raised_rows, restarted, stepped_row}
+use Rattle.row.specs.Rows.{raised_row, raised_rows, reworked_rows, stepped_rows}
 use Rattle.table.specs.Taking.{news, taken_history, taken_row}
 use Rattle.row.specs.Passes.{raised_by}
 use Rattle.table.specs.View.{View}
 use Rattle.row.specs.Entries.{each_row, no_row}
-use Rattle.row.proofs.RowLaws.{by_rows, length_on_articles, length_on_rows, row_on_articles, row_on_rows, stepped_by, told_by}
+use Rattle.row.proofs.RowLaws.{by_rows, length_on_articles, length_reworked, length_stepped, row_on_articles, row_reworked, row_stepped, told_by}
 
 module _ (kind : Meaning) (v : View) (m : Message) where
   abbrev own : ℕ
@@ -20,9 +18,6 @@ module _ (kind : Meaning) (v : View) (m : Message) where
 
   abbrev hs : List (ℕ × Interval)
   hs = stretches m
-
-  abbrev stepped : List Row → List Action → List Row
-  stepped rows xs = fold (on_row (stepped_row kind.steps)) rows xs
 
   abbrev told : List Row → List Row
   told rows = fold (raised_rows own m.sender) rows hs
@@ -37,12 +32,6 @@ module _ (kind : Meaning) (v : View) (m : Message) where
   row_told rows a within =
       row_on_articles (λ h. h.0) (λ (h : ℕ × Interval) r. raised_row m.sender h.1.site h.1.to (raised_row own h.1.site h.1.to r)) rows hs a within ∙ told_by own m.sender (get_or rows a no_row) (hs_on a)
 
-  row_stepped : (rows : List Row) (xs : List Action) (a : ℕ) → a < length rows → get_or (stepped rows xs) a no_row ≡ record { base = (get_or rows a no_row).base; kept = working kind.steps (get_or rows a no_row).kept (on a xs); known = (get_or rows a no_row).known }
-  row_stepped rows xs a within = row_on_rows (stepped_row kind.steps) rows xs a within ∙ stepped_by kind.steps (get_or rows a no_row) (on a xs)
-
-  long_stepped : (rows : List Row) (xs : List Action) → length (stepped rows xs) ≡ length rows
-  long_stepped = length_on_rows (stepped_row kind.steps)
-
   abbrev changed : Bool → ℕ → Row → Row
   changed commutes a r = record {
     base = r.base;
@@ -52,23 +41,22 @@ module _ (kind : Meaning) (v : View) (m : Message) where
 
   -- the rows that the passes leave, for a commuting kind and for any other
   abbrev pub recorded : Bool → List Row
-  recorded true = told (stepped v.rows (news v m))
-  recorded false = stepped (map restarted (told v.rows)) (taken_history v m)
+  recorded true = told (stepped_rows kind.steps v.rows (news v m))
+  recorded false = reworked_rows kind.steps (told v.rows) (taken_history v m)
 
   pub recorded_by : (commutes : Bool) → cond commutes (recorded true) (recorded false) ≡ recorded commutes
   recorded_by true = refl
   recorded_by false = refl
 
   long : (commutes : Bool) → length (recorded commutes) ≡ length v.rows
-  long true = long_told (stepped v.rows (news v m)) ∙ long_stepped v.rows (news v m)
-  long false = long_stepped (map restarted (told v.rows)) (taken_history v m) ∙ length-map (told v.rows) restarted ∙ long_told v.rows
+  long true = long_told (stepped_rows kind.steps v.rows (news v m)) ∙ length_stepped kind.steps v.rows (news v m)
+  long false = length_reworked kind.steps (told v.rows) (taken_history v m) ∙ long_told v.rows
 
   each : (commutes : Bool) (a : ℕ) → a < length v.rows → get_or (recorded commutes) a no_row ≡ changed commutes a (get_or v.rows a no_row)
   each true a within =
-      row_told (stepped v.rows (news v m)) a (omega (arith, long_stepped v.rows (news v m))) ∙ ap (λ (r : Row). record { base = r.base; kept = r.kept; known = fold (raised_by own m.sender) r.known (hs_on a) }) (row_stepped v.rows (news v m) a within)
+      row_told (stepped_rows kind.steps v.rows (news v m)) a (omega (arith, length_stepped kind.steps v.rows (news v m))) ∙ ap (λ (r : Row). record { base = r.base; kept = r.kept; known = fold (raised_by own m.sender) r.known (hs_on a) }) (row_stepped kind.steps v.rows (news v m) a within)
   each false a within =
-      let inside : a < length (told v.rows) = omega (arith, long_told v.rows) in
-      row_stepped (map restarted (told v.rows)) (taken_history v m) a (omega (arith, length-map (told v.rows) restarted)) ∙ ap (λ (r : Row). record { base = r.base; kept = working kind.steps r.kept (on a (taken_history v m)); known = r.known }) (get_or-map restarted (told v.rows) a no_row no_row inside ∙ ap restarted (row_told v.rows a within))
+      row_reworked kind.steps (told v.rows) (taken_history v m) a (omega (arith, long_told v.rows)) ∙ ap (λ (r : Row). record { base = r.base; kept = working kind.steps r.base (on a (taken_history v m)); known = r.known }) (row_told v.rows a within)
 
   pub rows_recorded : recorded kind.commutes ≡ each_row (taken_row kind v m) 0 v.rows
   rows_recorded = by_rows (taken_row kind v m) v.rows (recorded kind.commutes) (long kind.commutes) (each kind.commutes)

@@ -10,6 +10,7 @@ use Rattle.message.specs.Lawful.{LawfulMessage}
 use Rattle.message.specs.Walks.{actions_of, first_of, records_in}
 use Rattle.message.proofs.Carried.{carried_of}
 use Rattle.message.proofs.Walking.{lawful_records}
+use Rattle.row.specs.Passes.{new_actions}
 use Rattle.table.specs.Taking.{TakeRefused, Took, is_ahead, is_behind, is_new, news, take_refusal, taken, unless_found}
 use Rattle.table.specs.Taking.TakeRefused.{checked}
 use Rattle.table.specs.View.{View}
@@ -46,7 +47,7 @@ module _ (kind : Meaning) (number_fits : kind.number ≤ 255) (v : View) (shut :
   pub told : records_in bytes ≡ records sent
   told = lawful_records kind v.setup bytes sent number_fits lawful is
 
-  pub new_in : filter (is_new v) (actions_of (records_in bytes)) ≡ news v sent
+  pub new_in : new_actions v.rows v.setup.own bytes ≡ news v sent
   new_in = ap (λ rs. filter (is_new v) (actions_of rs)) told ∙ ap (filter (is_new v)) (carried_of sent)
 
   refused : (refusal : Refusal) → take_refusal v sent ≡ Some refusal → TakeRefused kind v bytes refusal
@@ -66,10 +67,10 @@ module _ (kind : Meaning) (number_fits : kind.number ≤ 255) (v : View) (shut :
       within : None ≡ first_of (is_ahead v) 0 0 (records sent)
       within = not_ahead ∙ ap (first_of (is_ahead v) 0 0) told
 
-      pub take_full : v.capacity < length v.history + length (filter (is_new v) (actions_of (records_in bytes))) → TakeRefused kind v bytes (by_history 16 v.capacity)
+      pub take_full : v.capacity < length v.history + length (new_actions v.rows v.setup.own bytes) → TakeRefused kind v bytes (by_history 16 v.capacity)
       take_full over = refused _ (refused_full v sent begun within (omega (arith, ap length new_in)))
 
-      pub take_whole : length v.history + length (filter (is_new v) (actions_of (records_in bytes))) ≤ v.capacity → (n : ℕ) (w : View) → n ≡ length (filter (is_new v) (actions_of (records_in bytes))) → w ≡ taken kind v sent → Took kind v bytes (Ok n) w
+      pub take_whole : length v.history + length (new_actions v.rows v.setup.own bytes) ≤ v.capacity → (n : ℕ) (w : View) → n ≡ length (new_actions v.rows v.setup.own bytes) → w ≡ taken kind v sent → Took kind v bytes (Ok n) w
       take_whole fits n w count after =
           (shut, (sent, lawful, is, unrefused v sent begun within (omega (arith, ap length new_in)), count ∙ ap length new_in, after))
 

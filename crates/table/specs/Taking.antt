@@ -1,5 +1,5 @@
 -- What take does to a table. Assumes nothing.
-use Rattle.std.specs.Prelude.{◌≡◌, ℕ, ◌+◌, max, Bool, true, false, ◌&&◌, List, length, Some, None, Ok, Err, fold, filter, Option, Result, ◌==◌, nat_eq, nat_le}
+use Rattle.std.specs.Prelude.{◌≡◌, ℕ, ◌+◌, Bool, true, false, ◌&&◌, List, length, Some, None, Ok, Err, fold, filter, Option, Result, ◌==◌, nat_eq, nat_le}
 use Rattle.action.specs.declared.orders.Action.{Action}
 use Rattle.action.specs.declared.refusals.Refusal.{Refusal}
 use Rattle.action.specs.Lawful.{by_history, by_table, unless}
@@ -12,7 +12,7 @@ use Rattle.message.specs.Checks.{Longest, Refused}
 use Rattle.message.specs.Format.{Message, carried, format, records, stretches}
 use Rattle.message.specs.Lawful.{LawfulMessage}
 use Rattle.message.specs.Walks.{first_of}
-use Rattle.row.specs.Passes.{is_ahead_in, is_behind_in, is_new_in, raised_by}
+use Rattle.row.specs.Passes.{is_ahead_in, is_behind_in, is_new_in, latest_to, raised_by}
 use Rattle.table.specs.declared.faults.TableFault.{TableFault}
 use Rattle.row.specs.declared.rows.Row.{Row}
 use Rattle.table.specs.Faults.{shown}
@@ -47,7 +47,7 @@ take_refusal v m =
 
 -- how far the intervals go for an article and a site, 0 where there are none
 abbrev pub highest : ℕ → ℕ → List (ℕ × Interval) → ℕ
-highest a q hs = fold (λ t (h : ℕ × Interval). max t h.1.to) 0 (filter (λ h. (h.0 == a) && h.1.site == q) hs)
+highest a q hs = latest_to 0 (filter (λ h. (h.0 == a) && h.1.site == q) hs)
 
 abbrev pub taken_history : View → Message → List Action
 taken_history v m = fold placed v.history (news v m)
@@ -63,7 +63,7 @@ taken_row kind v m a r = record {
 abbrev pub taken : Meaning → View → Message → View
 taken kind v m = record {
   setup = v.setup;
-  clock = fold (λ t (h : ℕ × Interval). max t h.1.to) v.clock (stretches m);
+  clock = latest_to v.clock (stretches m);
   is_open = v.is_open;
   pending = v.pending;
   rows = each_row (taken_row kind v m) 0 v.rows;

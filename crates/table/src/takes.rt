@@ -1,9 +1,10 @@
 // Taking a message whole: every check first, then everything it carries.
-ghost use Rattle.std.specs.Prelude.{◌≡◌, ◌+◌, ◌≤◌, length, filter};
+ghost use Rattle.std.specs.Prelude.{◌≡◌, ◌+◌, ◌≤◌, length};
 ghost use Rattle.message.specs.Format.{Message, records};
-ghost use Rattle.message.specs.Walks.{actions_of, records_in};
+ghost use Rattle.message.specs.Walks.{records_in};
+ghost use Rattle.row.specs.Passes.{new_actions};
 ghost use Rattle.table.specs.Sound.{Sound};
-ghost use Rattle.table.specs.Taking.{Took, is_new, taken};
+ghost use Rattle.table.specs.Taking.{Took, taken};
 
 use crate::faults::TableFault;
 use crate::stores::Store;
@@ -15,7 +16,8 @@ use message::check;
 impl<H: History> Store<H> {
     // Records what a message carries. What is new is judged by the entries before they are raised.
     fn absorb<K: Kind>(&mut self, bytes: &[u8])
-        requires { length self.old.history + length (filter (is_new self.old) (actions_of (records_in bytes.now))) ≤ self.old.capacity }
+        requires { length self.old.history + length (new_actions self.old.rows self.old.setup.own bytes.now)
+                   ≤ self.old.capacity }
         ensures { (m : Message) → records_in bytes.now ≡ records m → self.new ≡ taken K.means self.old m }
     {
         let Store { state, history } = self;

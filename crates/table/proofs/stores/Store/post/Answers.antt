@@ -1,5 +1,5 @@
-use Rattle.std.proofs.Common.{◌≡◌, ◌+◌, false, cond, [], ◌++◌, map, length, fold, ap, ◌∙◌}
-use Rattle.row.specs.Rows.{on_row, raised_row, restarted, stepped_row}
+use Rattle.std.proofs.Common.{◌≡◌, ◌+◌, false, cond, [], ◌++◌, length, fold, ap, ◌∙◌}
+use Rattle.row.specs.Rows.{on_row, raised_row, reworked_rows, stepped_rows}
 use Rattle.table.specs.Transactions.{committed}
 use Rattle.table.specs.View.{View, held}
 use Rattle.table.proofs.Posting.{rows_posted}
@@ -10,12 +10,11 @@ returns g c =
     let kind = g.K.Kind.means in
     let v = held c.self.inside.state (g.H.History.items c.self.inside.history) (g.H.History.room c.self.inside.history) in
     let own = v.setup.own in
-    let step = on_row (stepped_row kind.steps) in
     let raising = fold (on_row (λ x. raised_row own own x.time)) v.rows in
     let pending : c.written_in-pending.result.now ≡ v.pending = c.written_in-pending.ensures.value in
     let history : g.H.History.items c.append.new.history ≡ v.history ++ v.pending = c.append.ensures.list ∙ ap (λ l. v.history ++ l) pending in
     let raise : c.raise_posted.new.self.rows ≡ raising v.pending = c.raise_posted.ensures.rows ∙ ap raising pending in
-    let rows : c.work.new.self.rows ≡ (committed kind v).rows = c.work.ensures.rows ∙ (λ i. cond kind.commutes (fold step (raise i) (pending i)) (fold step (map restarted (raise i)) (history i))) ∙ rows_posted kind v in
+    let rows : c.work.new.self.rows ≡ (committed kind v).rows = c.work.ensures.rows ∙ (λ i. cond kind.commutes (stepped_rows kind.steps (raise i) (pending i)) (reworked_rows kind.steps (raise i) (history i))) ∙ rows_posted kind v in
     let after : ◌≡◌ {A = View} _ (committed kind v) = λ i. record {
       setup = (c.work.ensures.fixed ∙ c.raise_posted.ensures.fixed) i;
       clock = v.clock + length (pending i);

@@ -1,9 +1,9 @@
-use Rattle.std.proofs.Common.{sym, refl, ap, ◌∙◌, ◌+◌, ◌≤◌, Ok, length, filter, subst, rules}
+use Rattle.std.proofs.Common.{sym, refl, ap, ◌∙◌, ◌+◌, ◌≤◌, Ok, length, subst, rules}
 use Rattle.std.proofs.lemmas.Bool.{not-true}
 use Rattle.std.proofs.lemmas.Result.{err_from_is_err_and}
 use Rattle.action.specs.Lawful.{by_history, by_table}
-use Rattle.message.specs.Walks.{actions_of, records_in}
-use Rattle.table.specs.Taking.{TakeRefused, Took, is_new, taken}
+use Rattle.row.specs.Passes.{new_actions}
+use Rattle.table.specs.Taking.{TakeRefused, Took, taken}
 use Rattle.table.specs.View.{View, held}
 use Rattle.table.proofs.Refusals.{no_room, room, take_ahead, take_behind, take_full, take_whole, told}
 use Rattle.table.proofs.stores.Store.take.Goals as goal
@@ -26,14 +26,14 @@ returns g c =
     let found = c.in_ok-check.ensures.accepted in
     let shut = not-true _ c.in_ok-check_closed.ensures in
     let is = told g.K.Kind.means g.met.K.Kind.number_fits v shut found.0 found.1 _ found.2 in
-    let free : length v.history + length (filter (is_new v) (actions_of (records_in c.args.bytes.now))) ≤ v.capacity = room v c.args.self.now c.self.view_is (filter (is_new v) (actions_of (records_in c.args.bytes.now))) c.count_new-new.result c.count_new-new.ensures c.in_ok-check_room.ensures in
+    let free : length v.history + length (new_actions v.rows v.setup.own c.args.bytes.now) ≤ v.capacity = room v c.args.self.now c.self.view_is (new_actions v.rows v.setup.own c.args.bytes.now) c.count_new-new.result c.count_new-new.ensures c.in_ok-check_room.ensures in
     subst (λ (v : View). Took g.K.Kind.means v c.args.bytes.now (Ok c.count_new-new.result) c.absorb.new.self) c.self.view_is (take_whole g.K.Kind.means g.met.K.Kind.number_fits v shut found.0 found.1 _ found.2 c.in_default.ensures c.in_default-first_ahead.ensures free _ _ c.count_new-new.ensures (c.absorb.ensures found.0 is ∙ ap (λ (v : View). taken g.K.Kind.means v found.0) (sym c.self.view_is)))
 
 pub absorb-requires : goal.absorb-requires
 absorb-requires g c =
     let v = held c.self.inside.state (g.H.History.items c.self.inside.history) (g.H.History.room c.self.inside.history) in
-    let free : length v.history + length (filter (is_new v) (actions_of (records_in c.args.bytes.now))) ≤ v.capacity = room v c.args.self.now c.self.view_is (filter (is_new v) (actions_of (records_in c.args.bytes.now))) c.count_new-new.result c.count_new-new.ensures c.in_ok-check_room.ensures in
-    subst (λ (v : View). length v.history + length (filter (is_new v) (actions_of (records_in c.args.bytes.now))) ≤ v.capacity) c.self.view_is free
+    let free : length v.history + length (new_actions v.rows v.setup.own c.args.bytes.now) ≤ v.capacity = room v c.args.self.now c.self.view_is (new_actions v.rows v.setup.own c.args.bytes.now) c.count_new-new.result c.count_new-new.ensures c.in_ok-check_room.ensures in
+    subst (λ (v : View). length v.history + length (new_actions v.rows v.setup.own c.args.bytes.now) ≤ v.capacity) c.self.view_is free
 
 pub returns-in_err-check : goal.returns-in_err-check
 returns-in_err-check g c =
@@ -45,7 +45,7 @@ pub returns-in_err-check_room : goal.returns-in_err-check_room
 returns-in_err-check_room g c =
     let v = held c.self.inside.state (g.H.History.items c.self.inside.history) (g.H.History.room c.self.inside.history) in
     let found = c.in_ok-check.ensures.accepted in
-    let over = no_room v c.args.self.now c.self.view_is (filter (is_new v) (actions_of (records_in c.args.bytes.now))) c.count_new-new.result c.count_new-new.ensures c.in_err-check_room.ensures.0 in
+    let over = no_room v c.args.self.now c.self.view_is (new_actions v.rows v.setup.own c.args.bytes.now) c.count_new-new.result c.count_new-new.ensures c.in_err-check_room.ensures.0 in
     let refused : TakeRefused g.K.Kind.means c.args.self.now c.args.bytes.now (by_history 16 c.args.self.now.capacity) = subst (λ (w : View). TakeRefused g.K.Kind.means w c.args.bytes.now (by_history 16 w.capacity)) c.self.view_is (take_full g.K.Kind.means g.met.K.Kind.number_fits v (not-true _ c.in_ok-check_closed.ensures) found.0 found.1 _ found.2 c.in_default.ensures c.in_default-first_ahead.ensures over) in
     let exit = err_from_is_err_and c.from_residual-in_err-check_room.result c.from_residual-in_err-check_room.ensures.1 in
     rw (exit.1, exit.2, c.in_err-check_room.ensures.1) (refused, refl)
