@@ -5,6 +5,7 @@ use Rattle.message.specs.declared.records.Interval.{Interval}
 use Rattle.message.specs.Walks.{intervals_of, record_in, records_in, sender_in}
 use Rattle.row.specs.declared.rows.Row.{Row}
 use Rattle.row.specs.Entries.{no_row, raised}
+use Rattle.row.specs.Passes.{raised_by}
 
 abbrev pub raised_row : ℕ → ℕ → ℕ → Row → Row
 raised_row z q to r = record { base = r.base; kept = r.kept; known = raised r.known z q to }
@@ -20,7 +21,7 @@ restarted r = record { base = r.base; kept = r.base; known = r.known }
 abbrev pub changed_row : (Row → Row) → List Row → ℕ → List Row
 changed_row change rows a = slice_set rows a (change (slice_index_or rows a no_row))
 
--- the same where what changes the row tells the article
+-- a change by anything, to the row of the article that it tells
 abbrev pub on_article_row : {X : Type 0} → (X → ℕ) → (X → Row → Row) → List Row → X → List Row
 on_article_row article change rows x = changed_row (change x) rows (article x)
 
@@ -36,9 +37,13 @@ stepped_rows steps = fold (on_row (stepped_row steps))
 abbrev pub reworked_rows : (ℤ → ℕ → ℤ → ℤ) → List Row → List Action → List Row
 reworked_rows steps rows = stepped_rows steps (map restarted rows)
 
--- this site and the sender have what an interval on the article carries
+-- this site and the sender have what an interval on the row's article carries
+abbrev pub told_row : ℕ → ℕ → ℕ × Interval → Row → Row
+told_row own sender h r = record { base = r.base; kept = r.kept; known = raised_by own sender r.known h }
+
+-- the same to the row of the interval's article
 abbrev pub raised_rows : ℕ → ℕ → List Row → ℕ × Interval → List Row
-raised_rows own sender = on_article_row (λ h. h.0) (λ h r. raised_row sender h.1.site h.1.to (raised_row own h.1.site h.1.to r))
+raised_rows own sender = on_article_row (λ h. h.0) (told_row own sender)
 
 -- the same of all intervals of a message's bytes
 abbrev pub raised_by_message : ℕ → List ℕ → List Row → List Row

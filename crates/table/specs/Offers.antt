@@ -19,7 +19,8 @@ offer_interval v p a q = record { site = q; from = entry v a p q; to = entry v a
 -- does the action lie in one of the offer's intervals?
 abbrev pub is_offered : View → ℕ → ℕ → Action → Bool
 is_offered v p a x =
-    (x.article == a) && (nat_lt x.coordinator v.setup.sites && (nat_lt (entry v a p x.coordinator) x.time && nat_le x.time (entry v a v.setup.own x.coordinator)))
+    let i : Interval = offer_interval v p a x.coordinator in
+    (x.article == a) && (nat_lt x.coordinator v.setup.sites && (nat_lt i.from x.time && nat_le x.time i.to))
 
 -- an interval for each site, in their order, and the history's actions in them
 abbrev pub offer_section : View → ℕ → ℕ → Section

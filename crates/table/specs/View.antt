@@ -6,7 +6,7 @@ use Rattle.action.specs.declared.setups.Setup.{Setup}
 use Rattle.arrayvec.specs.ArrayVec.{ArrayVec}
 use Rattle.kind.specs.Meaning.{Meaning}
 use Rattle.row.specs.declared.rows.Row.{Row}
-use Rattle.row.specs.Entries.{at, no_row, start_row}
+use Rattle.row.specs.Entries.{entry_in, no_row, start_row}
 use Rattle.table.specs.declared.state.State.{State}
 
 pub record View : Type 0 where
@@ -48,7 +48,7 @@ row v a = slice_index_or v.rows a no_row
 
 -- an article's known entry
 abbrev pub entry : View → ℕ → ℕ → ℕ → ℕ
-entry v a z q = at (row v a).known z q
+entry v = entry_in v.rows
 
 -- a new table: its history is emptied, all times are 0 and all figures the start figure
 abbrev pub fresh : Meaning → Setup → ℕ → View
