@@ -14,4 +14,5 @@ pub mod Sections
 pub mod Soundness
 pub mod Stretching
 pub mod Taken
+pub mod Viewed
 pub mod Waiting

@@ -1,7 +1,6 @@
 -- How the checks of a take end. Assumes nothing.
 use Rattle.std.proofs.Common.{◌≡◌, ℕ, ◌+◌, ◌<◌, ◌≤◌, Bool, true, false, leb, nat_le, List, length, Some, None, Ok, filter, Option, sym, ap, ◌∙◌, arith}
 use Rattle.std.proofs.lemmas.Bool.{le-leb, leb-false, leb-true, lt-leb}
-use Rattle.action.specs.declared.orders.Action.{Action}
 use Rattle.action.specs.declared.refusals.Refusal.{Refusal}
 use Rattle.action.specs.Lawful.{by_history, by_table, unless}
 use Rattle.kind.specs.Meaning.{Meaning}
@@ -74,13 +73,13 @@ module _ (kind : Meaning) (number_fits : kind.number ≤ 255) (v : View) (shut :
       take_whole fits n w count after =
           (shut, (sent, lawful, is, unrefused v sent begun within (omega (arith, ap length new_in)), count ∙ ap length new_in, after))
 
--- the check for room, which was made of the view as it was and for as many actions as there are
-module _ (v w : View) (same : v ≡ w) (xs : List Action) (n : ℕ) (counted : n ≡ length xs) where
-  checked_room : nat_le (length v.history + length xs) v.capacity ≡ nat_le (length w.history + n) w.capacity
+-- the check for room, which was made of the view as it was and for as many actions as are new
+module _ {v w : View} (same : v ≡ w) (bytes : List ℕ) {n : ℕ} (counted : n ≡ length (new_actions v.rows v.setup.own bytes)) where
+  checked_room : nat_le (length v.history + length (new_actions v.rows v.setup.own bytes)) v.capacity ≡ nat_le (length w.history + n) w.capacity
   checked_room i = nat_le (length (same i).history + sym counted i) (same i).capacity
 
-  pub room : nat_le (length w.history + n) w.capacity ≡ true → length v.history + length xs ≤ v.capacity
+  pub room : nat_le (length w.history + n) w.capacity ≡ true → length v.history + length (new_actions v.rows v.setup.own bytes) ≤ v.capacity
   room passes = leb-true _ _ (checked_room ∙ passes)
 
-  pub no_room : nat_le (length w.history + n) w.capacity ≡ false → v.capacity < length v.history + length xs
+  pub no_room : nat_le (length w.history + n) w.capacity ≡ false → v.capacity < length v.history + length (new_actions v.rows v.setup.own bytes)
   no_room fails = leb-false _ _ (checked_room ∙ fails)

@@ -10,14 +10,15 @@ use Rattle.message.proofs.Buffers.{written_then}
 use Rattle.message.proofs.Formats.{length_joined}
 use Rattle.table.specs.declared.faults.TableFault.TheVariants.{Short}
 use Rattle.table.specs.Offers.{Offered, offer_interval}
-use Rattle.table.specs.View.{View, held}
+use Rattle.table.specs.View.{View}
 use Rattle.table.proofs.Offering.{actions, head, header, intervals, length_offer, offer_granted, offer_is, offer_short}
+use Rattle.table.proofs.Viewed.{view_in}
 use Rattle.table.proofs.offers.Offer.write.Goals as goal
 
 pub returns-then-needed-buffer : goal.returns-then-needed-buffer
 returns-then-needed-buffer g c =
     let kind = g.K.Kind.means in
-    let v = held c.store.inside.state (g.H.History.items c.store.inside.history) (g.H.History.room c.store.inside.history) in
+    let v = view_in c.store.view_is in
     let p = c.args.self.peer in
     let a = c.args.self.article in
     let listed : a < v.setup.articles = ltb-true a v.setup.articles c.in_ok-check_article.ensures in
@@ -28,7 +29,7 @@ returns-then-needed-buffer g c =
 pub returns : goal.returns
 returns g c =
     let kind = g.K.Kind.means in
-    let v = held c.store.inside.state (g.H.History.items c.store.inside.history) (g.H.History.room c.store.inside.history) in
+    let v = view_in c.store.view_is in
     let p = c.args.self.peer in
     let a = c.args.self.article in
     let b = c.args.buffer.now in

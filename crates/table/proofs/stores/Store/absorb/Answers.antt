@@ -6,15 +6,16 @@ use Rattle.message.proofs.Walking.{record_begins}
 use Rattle.row.specs.Passes.{latest_to, new_actions}
 use Rattle.row.specs.Rows.{raised_rows, reworked_rows, stepped_rows}
 use Rattle.table.specs.Taking.{is_new, news, taken, taken_history}
-use Rattle.table.specs.View.{View, held}
+use Rattle.table.specs.View.{View}
 use Rattle.table.proofs.Recording.{recorded_by, rows_recorded}
+use Rattle.table.proofs.Viewed.{view_in}
 use Rattle.table.proofs.stores.Store.absorb.Goals as goal
 
 pub returns : goal.returns
 returns g c m is =
     let kind = g.K.Kind.means in
     let bytes = c.args.bytes.now in
-    let v = held c.self.inside.state (g.H.History.items c.self.inside.history) (g.H.History.room c.self.inside.history) in
+    let v = view_in c.self.view_is in
     let new : new_actions v.rows v.setup.own bytes ≡ news v m = ap (λ rs. filter (is_new v) (actions_of rs)) is ∙ ap (filter (is_new v)) (carried_of m) in
     let hs : intervals_of 0 (records_in bytes) ≡ stretches m = ap (intervals_of 0) is ∙ stretches_of 0 m in
     let sender : sender_in (record_in bytes) ≡ m.sender = ap sender_in (record_begins bytes _ _ is) in

@@ -1,14 +1,15 @@
 use Rattle.std.proofs.Common.{◌≡◌, ◌+◌, false, cond, [], ◌++◌, length, fold, ap, ◌∙◌}
 use Rattle.row.specs.Rows.{on_row, raised_row, reworked_rows, stepped_rows}
 use Rattle.table.specs.Transactions.{committed}
-use Rattle.table.specs.View.{View, held}
+use Rattle.table.specs.View.{View}
 use Rattle.table.proofs.Posting.{rows_posted}
+use Rattle.table.proofs.Viewed.{view_in}
 use Rattle.table.proofs.stores.Store.post.Goals as goal
 
 pub returns : goal.returns
 returns g c =
     let kind = g.K.Kind.means in
-    let v = held c.self.inside.state (g.H.History.items c.self.inside.history) (g.H.History.room c.self.inside.history) in
+    let v = view_in c.self.view_is in
     let own = v.setup.own in
     let raising = fold (on_row (λ x. raised_row own own x.time)) v.rows in
     let pending : c.written_in-pending.result.now ≡ v.pending = c.written_in-pending.ensures.value in

@@ -4,19 +4,20 @@ use Rattle.kind.specs.Working.{working}
 use Rattle.kind.proofs.Workings.{working_fits}
 use Rattle.row.specs.Passes.{is_up_to}
 use Rattle.table.specs.Archiving.{archived, olds}
-use Rattle.table.specs.View.{View, held, row}
+use Rattle.table.specs.View.{View, row}
 use Rattle.table.proofs.Basing.{rows_archived}
+use Rattle.table.proofs.Viewed.{view_in}
 use Rattle.table.proofs.stores.Store.settle.Goals as goal
 
 pub returns-clause-count : goal.returns-clause-count
 returns-clause-count g c =
-    let v = held c.self.inside.state (g.H.History.items c.self.inside.history) (g.H.History.room c.self.inside.history) in
+    let v = view_in c.self.view_is in
     c.move_actions-gone.ensures.count ∙ ap (λ t. length (filter (is_up_to c.args.article t) v.history)) c.least_entry-time.ensures ∙ ap (λ (v : View). length (olds v c.args.article)) c.self.view_is
 
 pub returns-clause-after : goal.returns-clause-after
 returns-clause-after g c =
     let kind = g.K.Kind.means in
-    let v = held c.self.inside.state (g.H.History.items c.self.inside.history) (g.H.History.room c.self.inside.history) in
+    let v = view_in c.self.view_is in
     let a = c.args.article in
     let at = c.from-at.result in
     let r = row v at in

@@ -6,5 +6,4 @@ invariant_of-self g c =
     abandon_keeps g.K.Kind.means _ _ c.self.invariant c.args.ticket c.abandon.result c.abandon.ensures
 
 pub returns-clause-sound : goal.returns-clause-sound
-returns-clause-sound g c =
-    abandon_keeps g.K.Kind.means _ _ c.self.invariant c.args.ticket c.abandon.result c.abandon.ensures
+returns-clause-sound g c = invariant_of-self g c

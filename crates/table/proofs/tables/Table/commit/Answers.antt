@@ -11,8 +11,7 @@ invariant_of-self g c =
     commit_keeps g.K.Kind.means _ _ c.self.invariant c.args.ticket c.args.buffer.now c.commit.new.buffer c.commit.result c.commit.ensures
 
 pub returns-clause-sound : goal.returns-clause-sound
-returns-clause-sound g c =
-    commit_keeps g.K.Kind.means _ _ c.self.invariant c.args.ticket c.args.buffer.now c.commit.new.buffer c.commit.result c.commit.ensures
+returns-clause-sound g c = invariant_of-self g c
 
 pub returns-clause-lawful : goal.returns-clause-lawful
 returns-clause-lawful g c =

@@ -6,5 +6,4 @@ invariant_of-self g c =
     open_keeps g.K.Kind.means _ _ c.self.invariant c.open.result c.open.ensures
 
 pub returns-clause-sound : goal.returns-clause-sound
-returns-clause-sound g c =
-    open_keeps g.K.Kind.means _ _ c.self.invariant c.open.result c.open.ensures
+returns-clause-sound g c = invariant_of-self g c

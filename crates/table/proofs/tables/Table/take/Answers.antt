@@ -6,5 +6,4 @@ invariant_of-self g c =
     take_keeps g.K.Kind.means g.met.K.Kind.step_fits g.met.K.Kind.commute _ _ c.self.invariant c.args.bytes.now c.take.result c.take.ensures
 
 pub returns-clause-sound : goal.returns-clause-sound
-returns-clause-sound g c =
-    take_keeps g.K.Kind.means g.met.K.Kind.step_fits g.met.K.Kind.commute _ _ c.self.invariant c.args.bytes.now c.take.result c.take.ensures
+returns-clause-sound g c = invariant_of-self g c
