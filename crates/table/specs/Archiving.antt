@@ -15,11 +15,11 @@ use Rattle.row.specs.Entries.{each_row}
 abbrev pub archive_refusal : View → ℕ → Option Refusal
 archive_refusal v a = unless (not v.is_open) (by_table 2 0) (unless (nat_lt a v.setup.articles) (by_table 4 0) None)
 
--- what every site is known to have
+-- the least of the article's known entries: every site is known to have all up to it
 abbrev pub least : View → ℕ → ℕ
 least v = least_in v.rows v.setup.sites
 
--- an action on the article that every site is known to have
+-- an action on the article, up to that: a later one stays, even where every site has it
 abbrev pub is_old : View → ℕ → Action → Bool
 is_old v a = is_up_to a (least v a)
 

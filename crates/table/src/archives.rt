@@ -10,8 +10,9 @@ use kind::Kind;
 use row::move_actions;
 
 impl<H: History> Store<H> {
-    // Moves the article's actions that every site is known to have from the history into the base.
-    fn settle<K: Kind>(&mut self, article: u8) -> usize
+    // Moves the article's actions up to the least of its known entries, which every site is known to have,
+    // from the history into the base. Answers how many they were.
+    fn move_to_base<K: Kind>(&mut self, article: u8) -> usize
         requires { article < 64 }
         ensures count { result ≡ length (olds self.old article) }
         ensures after { self.new ≡ archived K.means self.old article }
@@ -19,7 +20,7 @@ impl<H: History> Store<H> {
         let ledger = &mut self.state.ledger;
         let time = ledger.least_entry(article);
         let at = usize::from(article);
-        // Not lent where it stands: of what is lent so the proof does not know that it fits 64 bits.
+        // A copy is lent, since the proof of a call that is lent the field itself does not know that it fits 64 bits.
         let mut base = ledger.rows[at].base;
         let gone = move_actions::<K, H>(&mut base, &mut self.history, article, time);
         ledger.rows[at].base = base;
@@ -32,13 +33,14 @@ impl<H: History> Store<H> {
     {
         self.state.check_closed()?;
         self.state.check_article(article)?;
-        Ok(self.settle::<K>(article))
+        Ok(self.move_to_base::<K>(article))
     }
 }
 
 impl<K: Kind, H: History> Table<K, H> {
-    // Works the actions on an article that every site is known to have into its base, and removes them
-    // from the history. Answers how many they were.
+    // Works an article's actions up to the least of its known entries, which every site is known to have,
+    // into its base, and removes them from the history. Later ones stay, even where every site has them.
+    // Answers how many it removed.
     pub fn archive(&mut self, article: u8) -> Result<usize, TableFault>
         ensures does { Archived K.means self.old article result self.new }
         ensures sound { Sound K.means self.new }

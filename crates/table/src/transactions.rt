@@ -51,24 +51,23 @@ impl<H: History> Store<H> {
         if writes >= MOST_WRITES {
             return Err(TableFault::TooManyWrites);
         }
-        let before = state.clock + writes as u32;
-        if before >= LATEST_TIME {
+        let time = state.clock + writes as u32 + 1;
+        if time > LATEST_TIME {
             return Err(TableFault::TooLate);
         }
         let action = Action {
             coordinator: state.ledger.setup.own,
-            time: before + 1,
+            time,
             transaction: state.clock + 1,
             article,
             operation,
             amount,
         };
         // A transaction is open, since the ticket fits.
-        match &mut state.transaction {
-            Some(pending) => pending.push(action),
-            None => unreachable(),
+        if let Some(pending) = &mut state.transaction {
+            pending.push(action);
         }
-        Ok(before + 1)
+        Ok(time)
     }
 
     // Drops the pending actions and spends the ticket.

@@ -7,7 +7,7 @@ use Rattle.table.specs.Archiving.{archived, olds}
 use Rattle.table.specs.View.{View, row}
 use Rattle.table.proofs.Basing.{rows_archived}
 use Rattle.table.proofs.Viewed.{view_in}
-use Rattle.table.proofs.stores.Store.settle.Goals as goal
+use Rattle.table.proofs.stores.Store.move_to_base.Goals as goal
 
 pub returns-clause-count : goal.returns-clause-count
 returns-clause-count g c =
