@@ -13,7 +13,7 @@ use Rattle.row.specs.Entries.{entry_in, raised}
 abbrev pub is_new_in : List Row → ℕ → Action → Bool
 is_new_in rows own x = nat_lt (entry_in rows x.article own x.coordinator) x.time
 
--- the actions of a message's bytes that it has not reached
+-- the actions in a message's bytes that such a table has not reached
 abbrev pub new_actions : List Row → ℕ → List ℕ → List Action
 new_actions rows own bytes = filter (is_new_in rows own) (actions_of (records_in bytes))
 

@@ -21,7 +21,7 @@ restarted r = record { base = r.base; kept = r.base; known = r.known }
 abbrev pub changed_row : (Row → Row) → List Row → ℕ → List Row
 changed_row change rows a = slice_set rows a (change (slice_index_or rows a no_row))
 
--- a change by anything, to the row of the article that it tells
+-- a change by x to the row of its article
 abbrev pub on_article_row : {X : Type 0} → (X → ℕ) → (X → Row → Row) → List Row → X → List Row
 on_article_row article change rows x = changed_row (change x) rows (article x)
 

@@ -34,7 +34,8 @@ impl Ledger {
     }
 
     // Where the message's first interval stands that says more of the own site than it has done. One function
-    // for this and the last would say in its contract what the test answers, which is longer than the chain.
+    // for this and the one before would say in its contract what the test answers, which is longer than the
+    // chain.
     pub fn first_ahead(&self, bytes: &[u8]) -> Option<usize>
         ensures { result ≡ first_of (is_ahead_in self.now.rows self.now.setup.own) 0 0 (records_in bytes.now) }
     {

@@ -12,13 +12,13 @@ use Rattle.kind.specs.Meaning.{Meaning}
 use Rattle.kind.specs.Working.{on}
 use Rattle.message.specs.declared.records.Interval.{Interval}
 use Rattle.message.specs.Lawful.{LawfulAction, LawfulInterval, LawfulMessage, LawfulSection, Rising}
+use Rattle.message.specs.Progress.{no_action}
 use Rattle.message.proofs.Sections.{all_both}
 use Rattle.table.specs.Offers.{is_offered, offer_interval, offer_message, offer_section}
 use Rattle.table.specs.Sound.{Fitting, Sound}
 use Rattle.table.specs.Transactions.{is_written, latest, transaction_message, transaction_section, written_articles}
 use Rattle.table.specs.View.{View, entry}
 use Rattle.table.proofs.Filtered.{few_kept, on_more}
-use Rattle.message.specs.Progress.{no_action}
 use Rattle.table.proofs.Rising.{below_counting, has_counted, map_back, rising_counting, rising_kept}
 use Rattle.table.proofs.Sections.{below, below_le, below_more, few_below}
 use Rattle.table.proofs.Waiting.{latest_ge, latest_le, waiting_ascending, waiting_fitting, waiting_own, waiting_times}

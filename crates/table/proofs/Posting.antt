@@ -4,10 +4,10 @@ use Rattle.kind.specs.Meaning.{Meaning}
 use Rattle.kind.specs.Working.{on, working}
 use Rattle.row.specs.declared.rows.Row.{Row}
 use Rattle.row.specs.Rows.{on_row, raised_row, reworked_rows, stepped_rows}
-use Rattle.table.specs.Transactions.{committed_row, latest}
-use Rattle.table.specs.View.{View}
 use Rattle.row.specs.Entries.{each_row, no_row}
 use Rattle.row.proofs.RowLaws.{by_rows, length_on_rows, length_reworked, length_stepped, raised_from, row_on_rows, row_reworked, row_stepped}
+use Rattle.table.specs.Transactions.{committed_row, latest}
+use Rattle.table.specs.View.{View}
 
 module _ (kind : Meaning) (v : View) where
   abbrev own : ℕ

@@ -6,11 +6,11 @@ use Rattle.message.specs.declared.records.Interval.{Interval}
 use Rattle.message.specs.Format.{Message, stretches}
 use Rattle.row.specs.declared.rows.Row.{Row}
 use Rattle.row.specs.Rows.{raised_rows, reworked_rows, stepped_rows, told_row}
-use Rattle.table.specs.Taking.{news, taken_history, taken_row}
 use Rattle.row.specs.Passes.{raised_by}
-use Rattle.table.specs.View.{View}
 use Rattle.row.specs.Entries.{each_row, no_row}
 use Rattle.row.proofs.RowLaws.{by_rows, length_on_articles, length_reworked, length_stepped, row_on_articles, row_reworked, row_stepped, told_by}
+use Rattle.table.specs.Taking.{news, taken_history, taken_row}
+use Rattle.table.specs.View.{View}
 
 module _ (kind : Meaning) (v : View) (m : Message) where
   abbrev own : ℕ

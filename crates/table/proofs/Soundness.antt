@@ -13,16 +13,16 @@ use Rattle.action.proofs.Sequence.{ascending_append}
 use Rattle.kind.specs.Meaning.{Meaning}
 use Rattle.kind.specs.Working.{on, working}
 use Rattle.kind.proofs.Workings.{on_append, working_append}
-use Rattle.table.specs.declared.faults.TableFault.{TableFault}
+use Rattle.message.specs.Progress.{no_action}
 use Rattle.row.specs.declared.rows.Row.{Row}
+use Rattle.row.specs.Entries.{at, no_row, raised, start_row}
+use Rattle.row.proofs.RowLaws.{by_row, length_each_row, row_each, row_past}
+use Rattle.table.specs.declared.faults.TableFault.{TableFault}
 use Rattle.table.specs.declared.tickets.Ticket.{Ticket}
 use Rattle.table.specs.Sound.{AllWaiting, Fitting, Sound, Square, Waiting}
 use Rattle.table.specs.Transactions.{Abandoned, Committed, Opened, Wrote, abandoned, committed, committed_row, holds, latest, new_action, next_time, opened, with_transaction, written}
 use Rattle.table.specs.View.{View, entry, fresh, row}
-use Rattle.row.specs.Entries.{at, no_row, raised, start_row}
 use Rattle.table.proofs.Entries.{at_raised, at_raised_column, at_raised_ge, at_raised_row, at_unknown, square_raised}
-use Rattle.message.specs.Progress.{no_action}
-use Rattle.row.proofs.RowLaws.{by_row, length_each_row, row_each, row_past}
 use Rattle.table.proofs.Waiting.{latest_ge, latest_le, waiting_ascending, waiting_fitting, waiting_own, waiting_push, waiting_times}
 
 -- a check that was passed

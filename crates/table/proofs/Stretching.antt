@@ -5,13 +5,13 @@ use Rattle.std.proofs.ByRecursion.{all-has}
 use Rattle.std.proofs.lemmas.Bool.{and_from, and_parts, cases_eq, eq-eqb, eqb-true, ne_eqb}
 use Rattle.action.proofs.Members.{all_from_has, has_kept_by, has_kept_by_parts}
 use Rattle.message.specs.declared.records.Interval.{Interval}
-use Rattle.table.specs.Sound.{Square}
-use Rattle.table.specs.Taking.{highest}
 use Rattle.row.specs.Passes.{raised_by}
 use Rattle.row.specs.Entries.{at, raised}
+use Rattle.row.proofs.Kept.{kept_by_both}
+use Rattle.table.specs.Sound.{Square}
+use Rattle.table.specs.Taking.{highest}
 use Rattle.table.proofs.Entries.{at_raised, at_raised_ge, at_raised_le, at_raised_other, at_raised_row, square_raised}
 use Rattle.table.proofs.Greatest.{greatest, greatest_above, greatest_from, greatest_ge, greatest_le}
-use Rattle.row.proofs.Kept.{kept_by_both}
 
 -- the greatest to of intervals of a site
 abbrev pub up_to : ℕ → List (ℕ × Interval) → ℕ
@@ -28,12 +28,12 @@ module _ (own sender : ℕ) (own_lt : own < 8) (sender_lt : sender < 8) where
   square_told known [] e = e
   square_told known (h ∷ hs) e = square_told (step known h) hs (square_raised _ sender h.1.site h.1.to (square_raised known own h.1.site h.1.to e))
 
-  -- the rows of other sites stay
+  -- the entries of other sites stay
   pub at_untold : (z q : ℕ) → (z ≡ own → ⊥) → (z ≡ sender → ⊥) → (known : List (List ℕ)) (hs : List (ℕ × Interval)) → Square known → at (fold (raised_by own sender) known hs) z q ≡ at known z q
-  at_untold z q not_own not-sender known [] e = refl
-  at_untold z q not_own not-sender known (h ∷ hs) e =
+  at_untold z q not_own not_sender known [] e = refl
+  at_untold z q not_own not_sender known (h ∷ hs) e =
       let once = square_raised known own h.1.site h.1.to e in
-      at_untold z q not_own not-sender (step known h) hs (square_raised _ sender h.1.site h.1.to once) ∙ at_raised_row (raised known own h.1.site h.1.to) sender h.1.site h.1.to once z q not-sender ∙ at_raised_row known own h.1.site h.1.to e z q not_own
+      at_untold z q not_own not_sender (step known h) hs (square_raised _ sender h.1.site h.1.to once) ∙ at_raised_row (raised known own h.1.site h.1.to) sender h.1.site h.1.to once z q not_sender ∙ at_raised_row known own h.1.site h.1.to e z q not_own
 
   module _ (z : ℕ) (told : (z ≡ own) ⊎ (z ≡ sender)) where
     -- one interval raises the entry of its site
@@ -65,7 +65,7 @@ module _ (own sender : ℕ) (own_lt : own < 8) (sender_lt : sender < 8) where
         sender_row is =
             subst (λ (n : ℕ). at (step known h) n p ≡ max (at known n p) t) (sym is) (omega (arith, at_raised once sender p t twice sender_lt sited, at_raised_ge known own p t e own_lt sited sender p, at_raised_le known own p t e own_lt sited sender p))
 
-    -- this table's row and the sender's are raised to what the intervals say
+    -- this table's entries and the sender's are raised to what the intervals say
     pub at_told : (known : List (List ℕ)) (hs : List (ℕ × Interval)) → Square known → AllByRecursion (λ h. h.1.site < 8) hs → (q : ℕ) → at (fold (raised_by own sender) known hs) z q ≡ max (at known z q) (up_to q hs)
     at_told known [] e sited q = omega arith
     at_told known (h ∷ hs) e sited q =

@@ -6,11 +6,11 @@ use Rattle.std.proofs.ByRecursion.{All-from_get_or, All-get_or, all-has, all_kep
 use Rattle.std.proofs.lemmas.Bool.{cases_eq, leb-true, ltb-false, ltb-true}
 use Rattle.action.specs.declared.orders.Action.{Action}
 use Rattle.action.specs.declared.refusals.Refusal.{Refusal}
+use Rattle.action.specs.declared.setups.Setup.{Setup}
 use Rattle.action.specs.Lawful.{by_history, unless}
 use Rattle.action.specs.Order.{Ascending}
 use Rattle.action.proofs.Placing.{folded_placed_all, folded_placed_ranked, length_folded_placed}
 use Rattle.action.proofs.Ranks.{Ranked, ranked_kept, ranked_unless}
-use Rattle.action.specs.declared.setups.Setup.{Setup}
 use Rattle.kind.specs.Meaning.{Meaning}
 use Rattle.kind.specs.Working.{knows_action, on, working}
 use Rattle.kind.proofs.Workings.{working_placed}
@@ -19,14 +19,14 @@ use Rattle.message.specs.Format.{Message, Section, carried, records, stretches}
 use Rattle.message.specs.Lawful.{Carries, LawfulAction, LawfulInterval, LawfulMessage, LawfulSection}
 use Rattle.message.specs.Walks.{first_of}
 use Rattle.message.proofs.Carried.{carried_lawful, carried_ranked, carried_within, none_found, stretches_lawful, stretches_of}
-use Rattle.table.specs.declared.faults.TableFault.{TableFault}
 use Rattle.row.specs.declared.rows.Row.{Row}
+use Rattle.row.specs.Entries.{at, no_row}
+use Rattle.row.proofs.RowLaws.{by_row, length_each_row, row_each}
+use Rattle.table.specs.declared.faults.TableFault.{TableFault}
 use Rattle.table.specs.Sound.{AllWaiting, Fitting, Sound, Square}
 use Rattle.table.specs.Taking.{Took, highest, is_ahead, is_behind, is_new, news, take_refusal, taken, taken_history, taken_row, unless_found}
 use Rattle.table.specs.View.{View, entry, row}
-use Rattle.row.specs.Entries.{at, no_row}
 use Rattle.table.proofs.Greatest.{greatest, greatest_from, greatest_ge, greatest_le}
-use Rattle.row.proofs.RowLaws.{by_row, length_each_row, row_each}
 use Rattle.table.proofs.Soundness.{passed}
 use Rattle.table.proofs.Stretching.{at_told, at_untold, highest_ge, highest_le, square_told, up_to_highest}
 
@@ -107,8 +107,8 @@ module _ (kind : Meaning) (v : View) (m : Message) (s : Sound kind v) (l : Lawfu
 
   -- and no others change
   pub taken_untold : (a z q : ℕ) → (z ≡ own → ⊥) → (z ≡ m.sender → ⊥) → entry w a z q ≡ entry v a z q
-  taken_untold a z q not_own not-sender =
-      by_row (taken_row kind v m) v.rows (λ b r. at r.known z q ≡ entry v b z q) (λ b past. refl) (λ b lt. at_untold own m.sender own_lt sender_lt z q not_own not-sender (row v b).known (about b) (square_row b lt)) a
+  taken_untold a z q not_own not_sender =
+      by_row (taken_row kind v m) v.rows (λ b r. at r.known z q ≡ entry v b z q) (λ b past. refl) (λ b lt. at_untold own m.sender own_lt sender_lt z q not_own not_sender (row v b).known (about b) (square_row b lt)) a
 
   pub taken_ge : (a z q : ℕ) → entry v a z q ≤ entry w a z q
   taken_ge a z q =
@@ -120,7 +120,7 @@ module _ (kind : Meaning) (v : View) (m : Message) (s : Sound kind v) (l : Lawfu
   pub taken_reaches : (a z : ℕ) (i : Interval) → (z ≡ own) ⊎ (z ≡ m.sender) → Has (stretches m) (a, i) → i.to ≤ entry w a z i.site
   taken_reaches a z i told h = omega (arith, taken_told a z i.site told, highest_ge a i (stretches m) h)
 
-  -- no entry of the own row is below one of another
+  -- no own entry is below another site's
   taken_believed : (a z q : ℕ) → entry w a z q ≤ entry w a own q
   taken_believed a z q =
       let mine = taken_told a own q (inl refl) in

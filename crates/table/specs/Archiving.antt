@@ -5,12 +5,12 @@ use Rattle.action.specs.declared.refusals.Refusal.{Refusal}
 use Rattle.action.specs.Lawful.{by_table, unless}
 use Rattle.kind.specs.Meaning.{Meaning}
 use Rattle.kind.specs.Working.{working}
-use Rattle.row.specs.Passes.{is_up_to, least_in}
-use Rattle.table.specs.declared.faults.TableFault.{TableFault}
 use Rattle.row.specs.declared.rows.Row.{Row}
+use Rattle.row.specs.Passes.{is_up_to, least_in}
+use Rattle.row.specs.Entries.{each_row}
+use Rattle.table.specs.declared.faults.TableFault.{TableFault}
 use Rattle.table.specs.Faults.{shown}
 use Rattle.table.specs.View.{View}
-use Rattle.row.specs.Entries.{each_row}
 
 abbrev pub archive_refusal : View → ℕ → Option Refusal
 archive_refusal v a = unless (not v.is_open) (by_table 2 0) (unless (nat_lt a v.setup.articles) (by_table 4 0) None)

@@ -44,9 +44,9 @@ pub record Sound (kind : Meaning) (v : View) : Type 0 where
   pub held : length v.history ≤ v.capacity
   pub few_places : v.capacity ≤ 1024
   pub fitting : AllByRecursion (Fitting kind v.setup) v.history
-  -- no action is above its coordinator's entry in the vector
+  -- no action is above its coordinator's entry in the reception vector
   pub reached : AllByRecursion (λ x. x.time ≤ entry v x.article v.setup.own x.coordinator) v.history
-  -- no entry is above the own one, and none of those above the clock
+  -- no entry is above the own site's for the same site, and none of the own site's is above the clock
   pub believed : (a z q : ℕ) → entry v a z q ≤ entry v a v.setup.own q
   pub clocked : (a q : ℕ) → entry v a v.setup.own q ≤ v.clock
   pub in_time : v.clock + length v.pending ≤ 4000000000

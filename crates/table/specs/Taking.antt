@@ -12,13 +12,13 @@ use Rattle.message.specs.Checks.{Longest, Refused}
 use Rattle.message.specs.Format.{Message, carried, format, records, stretches}
 use Rattle.message.specs.Lawful.{LawfulMessage}
 use Rattle.message.specs.Walks.{first_of}
-use Rattle.row.specs.Passes.{is_ahead_in, is_behind_in, is_new_in, latest_to, raised_by}
-use Rattle.table.specs.declared.faults.TableFault.{TableFault}
 use Rattle.row.specs.declared.rows.Row.{Row}
+use Rattle.row.specs.Passes.{is_ahead_in, is_behind_in, is_new_in, latest_to, raised_by}
+use Rattle.row.specs.Entries.{each_row}
+use Rattle.table.specs.declared.faults.TableFault.{TableFault}
 use Rattle.table.specs.Faults.{shown}
 use Rattle.table.specs.Transactions.{figure_after}
 use Rattle.table.specs.View.{View}
-use Rattle.row.specs.Entries.{each_row}
 
 -- the table has not reached the action yet
 abbrev pub is_new : View → Action → Bool

@@ -8,12 +8,12 @@ use Rattle.kind.specs.Meaning.{Meaning}
 use Rattle.kind.specs.Working.{on, working}
 use Rattle.message.specs.Buffer.{overwritten}
 use Rattle.message.specs.Format.{Message, Section, format, section_format}
-use Rattle.table.specs.declared.faults.TableFault.{TableFault}
 use Rattle.row.specs.declared.rows.Row.{Row}
+use Rattle.row.specs.Entries.{each_row, raised}
+use Rattle.table.specs.declared.faults.TableFault.{TableFault}
 use Rattle.table.specs.declared.tickets.Ticket.{Ticket}
 use Rattle.table.specs.Faults.{shown}
 use Rattle.table.specs.View.{View, entry}
-use Rattle.row.specs.Entries.{each_row, raised}
 
 -- OPEN
 

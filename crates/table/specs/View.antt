@@ -1,9 +1,9 @@
 -- What a table holds, as the contracts of its calls speak of it. Assumes nothing.
 use Rattle.std.specs.Prelude.{ℕ, Bool, false, List, [], Some, None, Option, replicate, slice_index_or}
 use Rattle.std.specs.Option.{is_some}
+use Rattle.arrayvec.specs.ArrayVec.{ArrayVec}
 use Rattle.action.specs.declared.orders.Action.{Action}
 use Rattle.action.specs.declared.setups.Setup.{Setup}
-use Rattle.arrayvec.specs.ArrayVec.{ArrayVec}
 use Rattle.kind.specs.Meaning.{Meaning}
 use Rattle.row.specs.declared.rows.Row.{Row}
 use Rattle.row.specs.Entries.{entry_in, no_row, start_row}

@@ -20,7 +20,7 @@ impl<H: History> Store<H> {
         let ledger = &mut self.state.ledger;
         let time = ledger.least_entry(article);
         let at = usize::from(article);
-        // A copy is lent, since the proof of a call that is lent the field itself does not know that it fits 64 bits.
+        // A copy is lent: of a field that is lent in place the proof does not know that it fits 64 bits.
         let mut base = ledger.rows[at].base;
         let gone = move_actions::<K, H>(&mut base, &mut self.history, article, time);
         ledger.rows[at].base = base;

@@ -72,8 +72,8 @@ impl Offer {
         at
     }
 
-    // Puts the actions that the offer carries. Apart from `put_on`, since one function over any iterator
-    // would have to ask what each of its runs may yield.
+    // Puts the actions that the offer carries. It is not one function with `put_on`: over any iterator, that
+    // would have to say in its contract what each run of the iterator may yield.
     fn put_actions<H: History>(self, store: &Store<H>, buffer: &mut [u8], start: usize) -> usize
         requires { start + 16 * length (filter (is_offered store.now self.peer self.article) store.now.history) ≤ length buffer.old }
         ensures end { result ≡ start + 16 * length (filter (is_offered store.now self.peer self.article) store.now.history) }

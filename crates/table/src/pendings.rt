@@ -83,8 +83,8 @@ impl State {
         put_on(pending, article, buffer, at)
     }
 
-    // How many sections the message has, and its length. This and the next walk over the articles written by
-    // themselves: an iterator over those would want a type, a model and lemmas of its own.
+    // How many sections the message has, and its length. The walk over the articles written stands both here
+    // and in `put_sections`: an iterator over them would want a type, a model and lemmas of its own.
     pub(crate) fn measure<K: Kind>(&self) -> Size
         ensures sections { result.sections ≡ length (written_articles (bare self.now)) }
         ensures few { result.sections ≤ 64 }

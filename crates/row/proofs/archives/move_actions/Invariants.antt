@@ -1,6 +1,6 @@
 use Rattle.std.proofs.Common.{◌≡◌, filter}
-use Rattle.history.specs.Walks.{left}
 use Rattle.kind.specs.Working.{working}
+use Rattle.history.specs.Walks.{left}
 use Rattle.row.specs.Passes.{is_up_to}
 use Rattle.row.proofs.archives.move_actions.Given as goal
 
