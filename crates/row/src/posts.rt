@@ -15,7 +15,7 @@ impl Ledger {
     pub(crate) fn on_row<F: FnOnce(&mut Row)>(&mut self, article: u8, change: F)
         requires { F.IsAlwaysCallable change }
         ensures rows { (f : ARow → ARow) → ((r s : ARow) → FnOnceReturnsAtMut F.FnOnce change r tt s → s ≡ f r)
-                       → self.new.rows ≡ changed_row f self.old.rows article }
+            → self.new.rows ≡ changed_row f self.old.rows article }
         ensures fixed { self.new.setup ≡ self.old.setup }
     {
         // By an index and not `get_mut`, for the reason that `Row::raise` has.
@@ -28,7 +28,7 @@ impl Ledger {
     // Raises the own entry of each action's article to the action's time.
     pub fn raise_posted(&mut self, actions: &[Action])
         ensures rows { let own = self.old.setup.own in
-                       self.new.rows ≡ fold (on_row (λ x. raised_row own own x.time)) self.old.rows actions.now }
+            self.new.rows ≡ fold (on_row (λ x. raised_row own own x.time)) self.old.rows actions.now }
         ensures fixed { self.new.setup ≡ self.old.setup }
     {
         let own = self.setup.own;
@@ -82,8 +82,8 @@ impl Ledger {
     // figures by the new actions alone, any other works again.
     pub fn work<K: Kind, H: History>(&mut self, history: &H, new: &[Action])
         ensures rows { self.new.rows ≡ (if K.means.commutes
-                       then stepped_rows K.means.steps self.old.rows new.now
-                       else reworked_rows K.means.steps self.old.rows (H.items history.now)) }
+            then stepped_rows K.means.steps self.old.rows new.now
+            else reworked_rows K.means.steps self.old.rows (H.items history.now)) }
         ensures fixed { self.new.setup ≡ self.old.setup }
     {
         if K::is_commuting() {

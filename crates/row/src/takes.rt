@@ -25,9 +25,9 @@ impl Ledger {
     // Puts the message's new actions at their places in the history.
     pub fn insert_new<H: History>(&self, history: &mut H, bytes: &[u8])
         requires { length (H.items history.old) + length (new_actions self.now.rows self.now.setup.own bytes.now)
-                   ≤ H.room history.old }
+            ≤ H.room history.old }
         ensures list { H.items history.new
-                       ≡ fold placed (H.items history.old) (new_actions self.now.rows self.now.setup.own bytes.now) }
+            ≡ fold placed (H.items history.old) (new_actions self.now.rows self.now.setup.own bytes.now) }
         ensures fixed { H.room history.new ≡ H.room history.old }
     {
         for action in Actions::new(bytes) {
@@ -42,7 +42,7 @@ impl Ledger {
     #[tactic(auto, using(crate::proofs::Stepping::entry_stepped))]
     fn step_new<K: Kind>(&mut self, bytes: &[u8])
         ensures rows { self.new.rows ≡ stepped_rows K.means.steps self.old.rows
-                       (new_actions self.old.rows self.old.setup.own bytes.now) }
+            (new_actions self.old.rows self.old.setup.own bytes.now) }
         ensures fixed { self.new.setup ≡ self.old.setup }
     {
         for carried in Actions::new(bytes) {
@@ -87,12 +87,12 @@ impl Ledger {
     pub fn record<K: Kind, H: History>(&mut self, history: &H, bytes: &[u8], clock: u32) -> u32
         ensures times { result ≡ latest_to clock (intervals_of 0 (records_in bytes.now)) }
         ensures rows { let steps = K.means.steps in
-                       let own = self.old.setup.own in
-                       let news = new_actions self.old.rows own bytes.now in
-                       let raise = raised_by_message own bytes.now in
-                       self.new.rows ≡ (if K.means.commutes
-                       then raise (stepped_rows steps self.old.rows news)
-                       else reworked_rows steps (raise self.old.rows) (H.items history.now)) }
+            let own = self.old.setup.own in
+            let news = new_actions self.old.rows own bytes.now in
+            let raise = raised_by_message own bytes.now in
+            self.new.rows ≡ (if K.means.commutes
+            then raise (stepped_rows steps self.old.rows news)
+            else reworked_rows steps (raise self.old.rows) (H.items history.now)) }
         ensures fixed { self.new.setup ≡ self.old.setup }
     {
         if K::is_commuting() {

@@ -17,7 +17,7 @@ impl<H: History> Store<H> {
     // Records what a message carries. What is new is judged by the entries before they are raised.
     fn absorb<K: Kind>(&mut self, bytes: &[u8])
         requires { length self.old.history + length (new_actions self.old.rows self.old.setup.own bytes.now)
-                   ≤ self.old.capacity }
+            ≤ self.old.capacity }
         ensures { (m : Message) → records_in bytes.now ≡ records m → self.new ≡ taken K.means self.old m }
     {
         let Store { state, history } = self;
