@@ -47,4 +47,5 @@ raised_rows own sender = on_article_row (λ h. h.0) (told_row own sender)
 
 -- the same of all intervals of a message's bytes
 abbrev pub raised_by_message : ℕ → List ℕ → List Row → List Row
-raised_by_message own bytes rows = fold (raised_rows own (sender_in (record_in bytes))) rows (intervals_of 0 (records_in bytes))
+raised_by_message own bytes rows =
+    fold (raised_rows own (sender_in (record_in bytes))) rows (intervals_of 0 (records_in bytes))

@@ -38,7 +38,8 @@ pub fn move_actions<K: Kind, H: History>(
     time: u32,
 ) -> usize
     ensures count { result ≡ length (filter (is_up_to article time) (H.items history.old)) }
-    ensures figure { base.new ≡ working K.means.steps base.old (filter (is_up_to article time) (H.items history.old)) }
+    ensures figure { base.new
+        ≡ working K.means.steps base.old (filter (is_up_to article time) (H.items history.old)) }
     ensures list { H.items history.new ≡ filter (λ x. not (is_up_to article time x)) (H.items history.old) }
     ensures fixed { H.room history.new ≡ H.room history.old }
 {

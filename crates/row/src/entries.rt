@@ -33,7 +33,8 @@ impl Ledger {
 
     // The least of a time and the article's known entries of all sites.
     fn least_of_all(&self, article: u8, time: u32) -> u32
-        ensures { result ≡ fold (least_of_in self.now.rows self.now.setup.sites article) time (range_with_len 0 self.now.setup.sites) }
+        ensures { let sites = self.now.setup.sites in
+            result ≡ fold (least_of_in self.now.rows sites article) time (range_with_len 0 sites) }
     {
         (0..self.setup.sites).fold(time, |least, z| self.least_of(article, least, z))
     }

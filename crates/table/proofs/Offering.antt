@@ -1,18 +1,16 @@
 -- An offer's bytes, part by part. Assumes nothing.
-use Rattle.std.proofs.Common.{◌≡◌, ℕ, ◌+◌, ◌*◌, ◌<◌, ◌≤◌, ltb, List, ◌++◌, map, length, Some, None, filter, Option, sym, ap, ◌∙◌, arith}
-use Rattle.std.specs.List.{range_with_len, flat_map}
+use Rattle.std.proofs.Common.{◌≡◌, ℕ, ◌+◌, ◌*◌, ◌<◌, ◌≤◌, ltb, List, ◌++◌, length, Some, None, Option, sym, ap, ◌∙◌, arith}
+use Rattle.std.specs.List.{flat_map}
 use Rattle.std.proofs.lemmas.List.FromFn.{length-map-range_with_len}
 use Rattle.std.proofs.lemmas.List.{append_assoc, append-nil, length-append}
 use Rattle.std.proofs.lemmas.Bool.{cond-false, cond-true, le-leb, lt-leb, lt-ltb}
-use Rattle.action.specs.declared.orders.Action.{Action}
 use Rattle.action.specs.declared.refusals.Refusal.{Refusal}
 use Rattle.action.specs.Lawful.{by_table, unless}
 use Rattle.action.specs.Bytes.{action_bytes}
 use Rattle.kind.specs.Meaning.{Meaning}
-use Rattle.message.specs.declared.records.Interval.{Interval}
 use Rattle.message.specs.Format.{head_of, header_bytes, header_of, interval_bytes, section_bytes}
 use Rattle.message.proofs.Formats.{body_bytes, format_is, length_body, section_is}
-use Rattle.table.specs.Offers.{is_offered, offer_bytes, offer_interval, offer_message, offer_refusal, offer_section}
+use Rattle.table.specs.Offers.{offer_actions, offer_bytes, offer_interval, offer_intervals, offer_message, offer_refusal, offer_section}
 use Rattle.table.specs.View.{View}
 
 module _ (kind : Meaning) (v : View) (p a : ℕ) where
@@ -22,20 +20,14 @@ module _ (kind : Meaning) (v : View) (p a : ℕ) where
   abbrev pub head : List ℕ
   head = section_bytes (head_of (offer_section v p a))
 
-  abbrev pub intervals : List Interval
-  intervals = map (offer_interval v p a) (range_with_len 0 v.setup.sites)
-
-  abbrev pub actions : List Action
-  actions = filter (is_offered v p a) v.history
-
-  pub offer_is : offer_bytes kind v p a ≡ ((header ++ head) ++ flat_map interval_bytes intervals) ++ flat_map action_bytes actions
+  pub offer_is : offer_bytes kind v p a ≡ ((header ++ head) ++ flat_map interval_bytes (offer_intervals v p a)) ++ flat_map action_bytes (offer_actions v p a)
   offer_is =
-      format_is (offer_message kind v p a) ∙ ap (λ l. header ++ l) (append-nil _ ∙ section_is (offer_section v p a)) ∙ sym (append_assoc header head _) ∙ sym (append_assoc (header ++ head) (flat_map interval_bytes intervals) _)
+      format_is (offer_message kind v p a) ∙ ap (λ l. header ++ l) (append-nil _ ∙ section_is (offer_section v p a)) ∙ sym (append_assoc header head _) ∙ sym (append_assoc (header ++ head) (flat_map interval_bytes (offer_intervals v p a)) _)
 
-  pub length_offer : length (offer_bytes kind v p a) ≡ 11 + 10 * v.setup.sites + 16 * length actions
+  pub length_offer : length (offer_bytes kind v p a) ≡ 11 + 10 * v.setup.sites + 16 * length (offer_actions v p a)
   length_offer =
-      let body = body_bytes intervals actions in
-      ap length (format_is (offer_message kind v p a) ∙ ap (λ l. header ++ l) (append-nil _ ∙ section_is (offer_section v p a))) ∙ length-append header (head ++ body) ∙ ap (λ n. 6 + n) (length-append head body ∙ ap (λ n. 5 + n) (length_body intervals actions)) ∙ omega (arith, length-map-range_with_len (offer_interval v p a) 0 v.setup.sites)
+      let body = body_bytes (offer_intervals v p a) (offer_actions v p a) in
+      ap length (format_is (offer_message kind v p a) ∙ ap (λ l. header ++ l) (append-nil _ ∙ section_is (offer_section v p a))) ∙ length-append header (head ++ body) ∙ ap (λ n. 6 + n) (length-append head body ∙ ap (λ n. 5 + n) (length_body (offer_intervals v p a) (offer_actions v p a))) ∙ omega (arith, length-map-range_with_len (offer_interval v p a) 0 v.setup.sites)
 
   module _ (buffer : List ℕ) (article : a < v.setup.articles) (peer : p < v.setup.sites) where
     checked : (rest : Option Refusal) → unless (ltb a v.setup.articles) (by_table 4 0) (unless (ltb p v.setup.sites) (by_table 5 0) rest) ≡ rest

@@ -19,10 +19,12 @@ figure v a = (row v a).kept
 
 abbrev pub known_refusal : View → ℕ → ℕ → ℕ → Option Refusal
 known_refusal v a z q =
-    unless (nat_lt a v.setup.articles) (by_table 4 0) (unless (nat_lt z v.setup.sites && nat_lt q v.setup.sites) (by_table 5 0) None)
+    unless (nat_lt a v.setup.articles) (by_table 4 0)
+    (unless (nat_lt z v.setup.sites && nat_lt q v.setup.sites) (by_table 5 0) None)
 
 abbrev pub open_item_refusal : View → ℕ → ℕ → Option Refusal
-open_item_refusal v a p = unless (nat_lt a v.setup.articles) (by_table 4 0) (unless (nat_lt p v.setup.sites) (by_table 5 0) None)
+open_item_refusal v a p =
+    unless (nat_lt a v.setup.articles) (by_table 4 0) (unless (nat_lt p v.setup.sites) (by_table 5 0) None)
 
 -- site p is not known to have all of this site's own actions on the article
 abbrev pub open_item : View → ℕ → ℕ → Bool

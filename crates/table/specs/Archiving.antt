@@ -13,7 +13,8 @@ use Rattle.table.specs.Faults.{shown}
 use Rattle.table.specs.View.{View}
 
 abbrev pub archive_refusal : View → ℕ → Option Refusal
-archive_refusal v a = unless (not v.is_open) (by_table 2 0) (unless (nat_lt a v.setup.articles) (by_table 4 0) None)
+archive_refusal v a =
+    unless (not v.is_open) (by_table 2 0) (unless (nat_lt a v.setup.articles) (by_table 4 0) None)
 
 -- the least of the article's known entries: every site is known to have all up to it
 abbrev pub least : View → ℕ → ℕ

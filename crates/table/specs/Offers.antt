@@ -22,13 +22,16 @@ is_offered v p a x =
     let i : Interval = offer_interval v p a x.coordinator in
     (x.article == a) && (nat_lt x.coordinator v.setup.sites && (nat_lt i.from x.time && nat_le x.time i.to))
 
--- an interval for each site, in their order, and the history's actions in them
+-- an interval for each site, in their order
+abbrev pub offer_intervals : View → ℕ → ℕ → List Interval
+offer_intervals v p a = map (offer_interval v p a) (range_with_len 0 v.setup.sites)
+
+-- the history's actions in them
+abbrev pub offer_actions : View → ℕ → ℕ → List Action
+offer_actions v p a = filter (is_offered v p a) v.history
+
 abbrev pub offer_section : View → ℕ → ℕ → Section
-offer_section v p a = record {
-  article = a;
-  intervals = map (offer_interval v p a) (range_with_len 0 v.setup.sites);
-  actions = filter (is_offered v p a) v.history;
-}
+offer_section v p a = record { article = a; intervals = offer_intervals v p a; actions = offer_actions v p a }
 
 abbrev pub offer_message : Meaning → View → ℕ → ℕ → Message
 offer_message kind v p a = record {
@@ -43,9 +46,13 @@ offer_bytes kind v p a = format (offer_message kind v p a)
 
 abbrev pub offer_refusal : Meaning → View → ℕ → ℕ → List ℕ → Option Refusal
 offer_refusal kind v p a buffer =
-    unless (nat_lt a v.setup.articles) (by_table 4 0) (unless (nat_lt p v.setup.sites) (by_table 5 0) (unless (nat_le (length (offer_bytes kind v p a)) (length buffer)) (by_table 15 (length (offer_bytes kind v p a))) None))
+    let needed : ℕ = length (offer_bytes kind v p a) in
+    unless (nat_lt a v.setup.articles) (by_table 4 0)
+    (unless (nat_lt p v.setup.sites) (by_table 5 0)
+    (unless (nat_le needed (length buffer)) (by_table 15 needed) None))
 
 abbrev pub Offered : Meaning → View → ℕ → ℕ → List ℕ → Result ℕ TableFault → List ℕ → Type 0
 Offered kind v p a buffer (Ok n) after =
-    (offer_refusal kind v p a buffer ≡ None) × (n ≡ length (offer_bytes kind v p a)) × (after ≡ overwritten buffer 0 (offer_bytes kind v p a))
+    (offer_refusal kind v p a buffer ≡ None) × (n ≡ length (offer_bytes kind v p a))
+    × (after ≡ overwritten buffer 0 (offer_bytes kind v p a))
 Offered kind v p a buffer (Err e) after = (offer_refusal kind v p a buffer ≡ Some (shown e)) × (after ≡ buffer)

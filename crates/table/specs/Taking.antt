@@ -43,7 +43,9 @@ unless_found (Some place) number rest = Some (by_table number place)
 -- the checks of a lawful message
 abbrev pub take_refusal : View → Message → Option Refusal
 take_refusal v m =
-    unless_found (first_of (is_behind v) 0 0 (records m)) 13 (unless_found (first_of (is_ahead v) 0 0 (records m)) 14 (unless (nat_le (length v.history + length (news v m)) v.capacity) (by_history 16 v.capacity) None))
+    unless_found (first_of (is_behind v) 0 0 (records m)) 13
+    (unless_found (first_of (is_ahead v) 0 0 (records m)) 14
+    (unless (nat_le (length v.history + length (news v m)) v.capacity) (by_history 16 v.capacity) None))
 
 -- how far the intervals go for an article and a site, 0 where there are none
 abbrev pub highest : ℕ → ℕ → List (ℕ × Interval) → ℕ
@@ -75,11 +77,14 @@ taken kind v m = record {
 
 -- 9 to 12: the bytes are no message for this table, by the reader's fault and place
 abbrev pub Misread : Meaning → View → List ℕ → Refusal → Type 0
-Misread kind v bytes refusal = (e : ReaderFault) × (ReaderFaults.shown e ≡ refusal) × Refused kind v.setup bytes (Err e) × Longest kind v.setup bytes (Err e)
+Misread kind v bytes refusal =
+    (e : ReaderFault) × (ReaderFaults.shown e ≡ refusal) × Refused kind v.setup bytes (Err e)
+    × Longest kind v.setup bytes (Err e)
 
 -- 13, 14 and 16: the bytes are a message for this table, and it meets a check
 abbrev pub Checked : Meaning → View → List ℕ → Refusal → Type 0
-Checked kind v bytes refusal = (m : Message) × LawfulMessage kind v.setup m × (bytes ≡ format m) × (take_refusal v m ≡ Some refusal)
+Checked kind v bytes refusal =
+    (m : Message) × LawfulMessage kind v.setup m × (bytes ≡ format m) × (take_refusal v m ≡ Some refusal)
 
 pub data TakeRefused (kind : Meaning) (v : View) (bytes : List ℕ) (refusal : Refusal) : Type 0 where
   while_open : v.is_open ≡ true → refusal ≡ by_table 2 0 → TakeRefused kind v bytes refusal
@@ -89,5 +94,7 @@ pub data TakeRefused (kind : Meaning) (v : View) (bytes : List ℕ) (refusal : R
 -- a message is taken whole, or refused and nothing is changed
 abbrev pub Took : Meaning → View → List ℕ → Result ℕ TableFault → View → Type 0
 Took kind v bytes (Ok n) w =
-    (v.is_open ≡ false) × ((m : Message) × LawfulMessage kind v.setup m × (bytes ≡ format m) × (take_refusal v m ≡ None) × (n ≡ length (news v m)) × (w ≡ taken kind v m))
+    (v.is_open ≡ false)
+    × ((m : Message) × LawfulMessage kind v.setup m × (bytes ≡ format m) × (take_refusal v m ≡ None)
+    × (n ≡ length (news v m)) × (w ≡ taken kind v m))
 Took kind v bytes (Err e) w = TakeRefused kind v bytes (shown e) × (w ≡ v)

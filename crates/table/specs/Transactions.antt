@@ -56,7 +56,11 @@ next_time v = v.clock + length v.pending + 1
 
 abbrev pub write_refusal : Meaning → View → Ticket → ℕ → ℕ → ℤ → Option Refusal
 write_refusal kind v t article operation amount =
-    unless (holds kind v t) (by_table 3 0) (unless (nat_lt article v.setup.articles) (by_table 4 0) (unless (kind.knows operation amount) (by_table 6 0) (unless (nat_lt (length v.pending) 16) (by_table 7 0) (unless (nat_le (next_time v) 4000000000) (by_table 8 0) None))))
+    unless (holds kind v t) (by_table 3 0)
+    (unless (nat_lt article v.setup.articles) (by_table 4 0)
+    (unless (kind.knows operation amount) (by_table 6 0)
+    (unless (nat_lt (length v.pending) 16) (by_table 7 0)
+    (unless (nat_le (next_time v) 4000000000) (by_table 8 0) None))))
 
 -- a transaction is numbered by the time of its first action
 abbrev pub new_action : View → ℕ → ℕ → ℤ → Action
@@ -74,8 +78,10 @@ written v a = with_transaction v.is_open (v.pending ++ (a ∷ [])) v
 
 abbrev pub Wrote : Meaning → View → Ticket → ℕ → ℕ → ℤ → Result ℕ TableFault → View → Type 0
 Wrote kind v t article operation amount (Ok time) w =
-    (write_refusal kind v t article operation amount ≡ None) × (time ≡ next_time v) × (w ≡ written v (new_action v article operation amount))
-Wrote kind v t article operation amount (Err e) w = (write_refusal kind v t article operation amount ≡ Some (shown e)) × (w ≡ v)
+    (write_refusal kind v t article operation amount ≡ None) × (time ≡ next_time v)
+    × (w ≡ written v (new_action v article operation amount))
+Wrote kind v t article operation amount (Err e) w =
+    (write_refusal kind v t article operation amount ≡ Some (shown e)) × (w ≡ v)
 
 -- ABANDON
 
@@ -94,7 +100,8 @@ Abandoned kind v t (Err e) w = (abandon_refusal kind v t ≡ Some (shown e.0)) �
 
 abbrev pub commit_refusal : Meaning → View → Ticket → Option Refusal
 commit_refusal kind v t =
-    unless (holds kind v t) (by_table 3 0) (unless (nat_le (length v.history + length v.pending) v.capacity) (by_history 16 v.capacity) None)
+    unless (holds kind v t) (by_table 3 0)
+    (unless (nat_le (length v.history + length v.pending) v.capacity) (by_history 16 v.capacity) None)
 
 -- the last time on the article, 0 where there is none
 abbrev pub latest : ℕ → List Action → ℕ
@@ -102,7 +109,8 @@ latest a xs = fold (λ t x. max t x.time) 0 (on a xs)
 
 -- a commuting kind steps the kept figure by the new actions alone, any other works again from the base
 abbrev pub figure_after : Meaning → ℕ → Row → List Action → List Action → ℤ
-figure_after kind a r history new = cond kind.commutes (working kind.steps r.kept (on a new)) (working kind.steps r.base (on a history))
+figure_after kind a r history new =
+    cond kind.commutes (working kind.steps r.kept (on a new)) (working kind.steps r.base (on a history))
 
 abbrev pub committed_row : Meaning → View → ℕ → Row → Row
 committed_row kind v a r = record {
@@ -161,5 +169,8 @@ fitting bytes buffer = cond (nat_le (length bytes) (length buffer)) bytes []
 
 abbrev pub Committed : Meaning → View → Ticket → List ℕ → Result (ℕ × ℕ) (TableFault × Ticket) → View → List ℕ → Type 0
 Committed kind v t buffer (Ok r) w after =
-    (commit_refusal kind v t ≡ None) × (r.0 ≡ length v.pending) × (r.1 ≡ length (fitting (transaction_bytes kind v) buffer)) × (w ≡ committed kind v) × (after ≡ overwritten buffer 0 (fitting (transaction_bytes kind v) buffer))
-Committed kind v t buffer (Err e) w after = (commit_refusal kind v t ≡ Some (shown e.0)) × (e.1 ≡ t) × (w ≡ v) × (after ≡ buffer)
+    (commit_refusal kind v t ≡ None) × (r.0 ≡ length v.pending)
+    × (r.1 ≡ length (fitting (transaction_bytes kind v) buffer)) × (w ≡ committed kind v)
+    × (after ≡ overwritten buffer 0 (fitting (transaction_bytes kind v) buffer))
+Committed kind v t buffer (Err e) w after =
+    (commit_refusal kind v t ≡ Some (shown e.0)) × (e.1 ≡ t) × (w ≡ v) × (after ≡ buffer)

@@ -18,7 +18,8 @@ use row::append;
 // wrote none, and no `Option`, since the rules of a commit fix that answer.
 fn send<K: Kind>(state: &State, buffer: &mut [u8]) -> usize
     ensures length { result ≡ length (fitting (transaction_bytes K.means (bare state.now)) buffer.old) }
-    ensures bytes { buffer.new ≡ overwritten buffer.old 0 (fitting (transaction_bytes K.means (bare state.now)) buffer.old) }
+    ensures bytes { buffer.new
+        ≡ overwritten buffer.old 0 (fitting (transaction_bytes K.means (bare state.now)) buffer.old) }
 {
     if written_in(&state.transaction).is_empty() {
         return 0;
@@ -80,7 +81,8 @@ impl<K: Kind, H: History> Table<K, H> {
     ) -> Result<(usize, usize), (TableFault, Ticket)>
         ensures does { Committed K.means self.old ticket buffer.old result self.new buffer.new }
         ensures sound { Sound K.means self.new }
-        ensures lawful { 0 < length self.old.pending → LawfulMessage K.means self.old.setup (transaction_message K.means self.old) }
+        ensures lawful { 0 < length self.old.pending
+            → LawfulMessage K.means self.old.setup (transaction_message K.means self.old) }
     {
         self.store.commit::<K>(ticket, buffer)
     }

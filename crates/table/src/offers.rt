@@ -1,10 +1,10 @@
-ghost use Rattle.std.specs.Prelude.{◌≡◌, ◌+◌, ◌*◌, ◌<◌, ◌≤◌, map, length, filter};
-ghost use Rattle.std.specs.List.{range_with_len, flat_map};
+ghost use Rattle.std.specs.Prelude.{◌≡◌, ◌+◌, ◌*◌, ◌<◌, ◌≤◌, length};
+ghost use Rattle.std.specs.List.{flat_map};
 ghost use Rattle.action.specs.Bytes.{action_bytes};
 ghost use Rattle.message.specs.Buffer.{overwritten};
 ghost use Rattle.message.specs.Format.{interval_bytes};
 ghost use Rattle.message.specs.Lawful.{LawfulMessage};
-ghost use Rattle.table.specs.Offers.{Offered, is_offered, offer_interval, offer_message};
+ghost use Rattle.table.specs.Offers.{Offered, is_offered, offer_actions, offer_interval, offer_intervals, offer_message};
 ghost use Rattle.table.specs.Sound.{Sound};
 ghost use Rattle.table.specs.View.{bare};
 
@@ -51,7 +51,7 @@ impl Offer {
 
     // How many actions the offer carries.
     fn count<H: History>(self, store: &Store<H>) -> usize
-        ensures value { result ≡ length (filter (is_offered store.now self.peer self.article) store.now.history) }
+        ensures value { result ≡ length (offer_actions store.now self.peer self.article) }
         ensures few { result ≤ length store.now.history }
     {
         actions(&store.history)
@@ -63,7 +63,8 @@ impl Offer {
     fn put_intervals(self, state: &State, buffer: &mut [u8], start: usize) -> usize
         requires { start + 10 * state.now.ledger.setup.sites ≤ length buffer.old }
         ensures end { result ≡ start + 10 * state.now.ledger.setup.sites }
-        ensures bytes { buffer.new ≡ overwritten buffer.old start (flat_map interval_bytes (map (offer_interval (bare state.now) self.peer self.article) (range_with_len 0 state.now.ledger.setup.sites))) }
+        ensures bytes { buffer.new ≡ overwritten buffer.old start
+            (flat_map interval_bytes (offer_intervals (bare state.now) self.peer self.article)) }
     {
         let mut at = start;
         for q in 0..state.ledger.setup.sites {
@@ -75,9 +76,10 @@ impl Offer {
     // Puts the actions that the offer carries. It is not one function with `put_on`: over any iterator, that
     // would have to say in its contract what each run of the iterator may yield.
     fn put_actions<H: History>(self, store: &Store<H>, buffer: &mut [u8], start: usize) -> usize
-        requires { start + 16 * length (filter (is_offered store.now self.peer self.article) store.now.history) ≤ length buffer.old }
-        ensures end { result ≡ start + 16 * length (filter (is_offered store.now self.peer self.article) store.now.history) }
-        ensures bytes { buffer.new ≡ overwritten buffer.old start (flat_map action_bytes (filter (is_offered store.now self.peer self.article) store.now.history)) }
+        requires { start + 16 * length (offer_actions store.now self.peer self.article) ≤ length buffer.old }
+        ensures end { result ≡ start + 16 * length (offer_actions store.now self.peer self.article) }
+        ensures bytes { buffer.new ≡ overwritten buffer.old start
+            (flat_map action_bytes (offer_actions store.now self.peer self.article)) }
     {
         let mut at = start;
         for action in actions(&store.history) {
@@ -124,7 +126,8 @@ impl<K: Kind, H: History> Table<K, H> {
     pub fn offer(&self, peer: u8, article: u8, buffer: &mut [u8]) -> Result<usize, TableFault>
         ensures does { Offered K.means self.now peer article buffer.old result buffer.new }
         ensures sound { Sound K.means self.now }
-        ensures lawful { article < self.now.setup.articles → LawfulMessage K.means self.now.setup (offer_message K.means self.now peer article) }
+        ensures lawful { article < self.now.setup.articles
+            → LawfulMessage K.means self.now.setup (offer_message K.means self.now peer article) }
     {
         let offer = Offer { peer, article };
         offer.write::<K, H>(&self.store, buffer)

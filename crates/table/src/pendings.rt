@@ -61,9 +61,11 @@ impl State {
     // Puts the section of an article that has so many pending actions.
     fn put_section(&self, article: u8, count: usize, buffer: &mut [u8], start: usize) -> usize
         requires counted { (count ≡ length (on article (bare self.now).pending)) × (count ≤ 16) }
-        requires room { start + length (section_format (transaction_section (bare self.now) article)) ≤ length buffer.old }
+        requires room { start + length (section_format (transaction_section (bare self.now) article))
+            ≤ length buffer.old }
         ensures end { result ≡ start + length (section_format (transaction_section (bare self.now) article)) }
-        ensures bytes { buffer.new ≡ overwritten buffer.old start (section_format (transaction_section (bare self.now) article)) }
+        ensures bytes { buffer.new
+            ≡ overwritten buffer.old start (section_format (transaction_section (bare self.now) article)) }
     {
         let pending = written_in(&self.transaction);
         let own = self.ledger.setup.own;

@@ -47,7 +47,13 @@ impl State {
 
     // The header of a message of this site's.
     pub(crate) fn header<K: Kind>(&self, sections: u8) -> Header
-        ensures { ◌≡◌ {A = AHeader} result (record { group = self.now.ledger.setup.group; kind = K.means.number; sender = self.now.ledger.setup.own; sections = sections }) }
+        ensures { let setup = self.now.ledger.setup in
+            ◌≡◌ {A = AHeader} result (record {
+              group = setup.group;
+              kind = K.means.number;
+              sender = setup.own;
+              sections = sections;
+            }) }
     {
         let setup = self.ledger.setup;
         Header {
