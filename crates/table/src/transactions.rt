@@ -1,5 +1,4 @@
 // A transaction up to its commit: opening it, writing to it, and dropping it.
-ghost use Rattle.std.specs.Prelude.{◌≡◌};
 ghost use Rattle.table.specs.Sound.{Sound};
 ghost use Rattle.table.specs.Transactions.{Abandoned, Opened, Wrote};
 
