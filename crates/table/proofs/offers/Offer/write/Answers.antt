@@ -23,7 +23,7 @@ returns-then-needed-buffer g c =
     let a = c.args.self.article in
     let listed : a < v.setup.articles = ltb-true a v.setup.articles c.in_ok-check_article.ensures in
     let known : p < v.setup.sites = ltb-true p v.setup.sites c.in_ok-check_site.ensures in
-    let counted : c.count-carried.result ≡ length (offer_actions v p a) = c.count-carried.ensures.value ∙ ap (λ (v : View). length (offer_actions v p a)) (sym c.store.view_is) in
+    let counted : c.count-carried.result ≡ length (offer_actions v p a) = subst (λ (w : View). c.count-carried.result ≡ length (offer_actions w p a)) (sym c.store.view_is) c.count-carried.ensures.value in
     subst (λ (v : View). Offered kind v p a c.args.buffer.now (Err (Short (11 + 10 * c.from.result + 16 * c.count-carried.result))) c.args.buffer.now) c.store.view_is (offer_short kind v p a c.args.buffer.now listed known (11 + 10 * c.from.result + 16 * c.count-carried.result) (omega (arith, c.from.ensures, length_offer kind v p a)) (omega arith), refl)
 
 pub returns : goal.returns
@@ -36,7 +36,7 @@ returns g c =
     let sites = v.setup.sites in
     let listed : a < v.setup.articles = ltb-true a v.setup.articles c.in_ok-check_article.ensures in
     let known : p < v.setup.sites = ltb-true p v.setup.sites c.in_ok-check_site.ensures in
-    let counted : c.count-carried.result ≡ length (offer_actions v p a) = c.count-carried.ensures.value ∙ ap (λ (v : View). length (offer_actions v p a)) (sym c.store.view_is) in
+    let counted : c.count-carried.result ≡ length (offer_actions v p a) = subst (λ (w : View). c.count-carried.result ≡ length (offer_actions w p a)) (sym c.store.view_is) c.count-carried.ensures.value in
     let long = length_offer kind v p a in
     let intervals_long : length (flat_map interval_bytes (offer_intervals v p a)) ≡ 10 * sites = length_joined interval_bytes 10 (λ _. refl) (offer_intervals v p a) ∙ ap (λ n. 10 * n) (length-map-range_with_len (offer_interval v p a) 0 sites) in
     let H = header kind v p a in
