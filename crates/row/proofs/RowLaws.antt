@@ -6,7 +6,7 @@ use Rattle.action.specs.declared.orders.Action.{Action}
 use Rattle.kind.specs.Working.{on, working}
 use Rattle.message.specs.declared.records.Interval.{Interval}
 use Rattle.row.specs.declared.rows.Row.{Row}
-use Rattle.row.specs.Rows.{on_article_row, on_row, raised_row, restarted, reworked_rows, stepped_row, stepped_rows, told_row}
+use Rattle.row.specs.Rows.{on_article_row, on_row, raised_row, raised_row_by, restarted, reworked_rows, stepped_row, stepped_rows}
 use Rattle.row.specs.Passes.{raised_by}
 use Rattle.row.specs.Entries.{at, each_row, no_row, raised}
 
@@ -124,6 +124,6 @@ raised_from z q r xs =
     ap (λ k. fold (λ r x. raised_row z q x.time r) (record { base = r.base; kept = r.kept; known = k }) xs) (sym (raised_none r.known z q)) ∙ raised_by_lem z q r 0 xs
 
 -- a row raised by intervals
-pub told_by : (own sender : ℕ) (r : Row) (hs : List (ℕ × Interval)) → fold (λ r h. told_row own sender h r) r hs ≡ record { base = r.base; kept = r.kept; known = fold (raised_by own sender) r.known hs }
+pub told_by : (own sender : ℕ) (r : Row) (hs : List (ℕ × Interval)) → fold (λ r h. raised_row_by own sender h r) r hs ≡ record { base = r.base; kept = r.kept; known = fold (raised_by own sender) r.known hs }
 told_by own sender r [] = refl
-told_by own sender r (h ∷ hs) = told_by own sender (told_row own sender h r) hs
+told_by own sender r (h ∷ hs) = told_by own sender (raised_row_by own sender h r) hs

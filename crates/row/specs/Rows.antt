@@ -29,6 +29,10 @@ on_article_row article change rows x = changed_row (change x) rows (article x)
 abbrev pub on_row : (Action → Row → Row) → List Row → Action → List Row
 on_row change = on_article_row (λ x. x.article) change
 
+-- the own entries of actions' articles raised to their times
+abbrev pub posted_rows : ℕ → List Row → List Action → List Row
+posted_rows own = fold (on_row (λ x. raised_row own own x.time))
+
 -- the kept figures stepped by actions, in their order
 abbrev pub stepped_rows : (ℤ → ℕ → ℤ → ℤ) → List Row → List Action → List Row
 stepped_rows steps = fold (on_row (stepped_row steps))
@@ -38,12 +42,12 @@ abbrev pub reworked_rows : (ℤ → ℕ → ℤ → ℤ) → List Row → List A
 reworked_rows steps rows = stepped_rows steps (map restarted rows)
 
 -- this site and the sender have what an interval on the row's article carries
-abbrev pub told_row : ℕ → ℕ → ℕ × Interval → Row → Row
-told_row own sender h r = record { base = r.base; kept = r.kept; known = raised_by own sender r.known h }
+abbrev pub raised_row_by : ℕ → ℕ → ℕ × Interval → Row → Row
+raised_row_by own sender h r = record { base = r.base; kept = r.kept; known = raised_by own sender r.known h }
 
 -- the same to the row of the interval's article
 abbrev pub raised_rows : ℕ → ℕ → List Row → ℕ × Interval → List Row
-raised_rows own sender = on_article_row (λ h. h.0) (told_row own sender)
+raised_rows own sender = on_article_row (λ h. h.0) (raised_row_by own sender)
 
 -- the same of all intervals of a message's bytes
 abbrev pub raised_by_message : ℕ → List ℕ → List Row → List Row

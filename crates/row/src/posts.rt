@@ -1,8 +1,8 @@
 // What actions do to a ledger's rows.
-ghost use Rattle.std.specs.Prelude.{◌≡◌, map, if◌then◌else◌, fold};
+ghost use Rattle.std.specs.Prelude.{◌≡◌, map, if◌then◌else◌};
 ghost use Rattle.std.specs.Fn.{FnOnceReturnsAtMut};
 ghost use Rattle.row.specs.declared.rows.Row.{Row as ARow};
-ghost use Rattle.row.specs.Rows.{changed_row, on_row, raised_row, restarted, reworked_rows, stepped_row, stepped_rows};
+ghost use Rattle.row.specs.Rows.{changed_row, on_row, posted_rows, restarted, reworked_rows, stepped_row, stepped_rows};
 
 use crate::ledgers::Ledger;
 use crate::rows::Row;
@@ -27,8 +27,7 @@ impl Ledger {
 
     // Raises the own entry of each action's article to the action's time.
     pub fn raise_posted(&mut self, actions: &[Action])
-        ensures rows { let own = self.old.setup.own in
-            self.new.rows ≡ fold (on_row (λ x. raised_row own own x.time)) self.old.rows actions.now }
+        ensures rows { self.new.rows ≡ posted_rows self.old.setup.own self.old.rows actions.now }
         ensures fixed { self.new.setup ≡ self.old.setup }
     {
         let own = self.setup.own;

@@ -5,7 +5,7 @@ use Rattle.kind.specs.Working.{on, working}
 use Rattle.message.specs.declared.records.Interval.{Interval}
 use Rattle.message.specs.Format.{Message, stretches}
 use Rattle.row.specs.declared.rows.Row.{Row}
-use Rattle.row.specs.Rows.{raised_rows, reworked_rows, stepped_rows, told_row}
+use Rattle.row.specs.Rows.{raised_row_by, raised_rows, reworked_rows, stepped_rows}
 use Rattle.row.specs.Passes.{raised_by}
 use Rattle.row.specs.Entries.{each_row, no_row}
 use Rattle.row.proofs.RowLaws.{by_rows, length_on_articles, length_reworked, length_stepped, row_on_articles, row_reworked, row_stepped, told_by}
@@ -23,14 +23,14 @@ module _ (kind : Meaning) (v : View) (m : Message) where
   told rows = fold (raised_rows own m.sender) rows hs
 
   long_told : (rows : List Row) → length (told rows) ≡ length rows
-  long_told rows = length_on_articles (λ h. h.0) (told_row own m.sender) rows hs
+  long_told rows = length_on_articles (λ h. h.0) (raised_row_by own m.sender) rows hs
 
   abbrev hs_on : ℕ → List (ℕ × Interval)
   hs_on a = filter (λ h. eqb h.0 a) hs
 
   row_told : (rows : List Row) (a : ℕ) → a < length rows → get_or (told rows) a no_row ≡ record { base = (get_or rows a no_row).base; kept = (get_or rows a no_row).kept; known = fold (raised_by own m.sender) (get_or rows a no_row).known (hs_on a) }
   row_told rows a within =
-      row_on_articles (λ h. h.0) (told_row own m.sender) rows hs a within ∙ told_by own m.sender (get_or rows a no_row) (hs_on a)
+      row_on_articles (λ h. h.0) (raised_row_by own m.sender) rows hs a within ∙ told_by own m.sender (get_or rows a no_row) (hs_on a)
 
   abbrev changed : Bool → ℕ → Row → Row
   changed commutes a r = record {

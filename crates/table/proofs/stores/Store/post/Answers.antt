@@ -1,5 +1,5 @@
-use Rattle.std.proofs.Common.{◌≡◌, ◌+◌, false, cond, [], ◌++◌, length, fold, ap, ◌∙◌}
-use Rattle.row.specs.Rows.{on_row, raised_row, reworked_rows, stepped_rows}
+use Rattle.std.proofs.Common.{◌≡◌, ◌+◌, false, cond, [], ◌++◌, length, ap, ◌∙◌}
+use Rattle.row.specs.Rows.{posted_rows, reworked_rows, stepped_rows}
 use Rattle.table.specs.Transactions.{committed}
 use Rattle.table.specs.View.{View}
 use Rattle.table.proofs.Posting.{rows_posted}
@@ -11,7 +11,7 @@ returns g c =
     let kind = g.K.Kind.means in
     let v = view_in c.self.view_is in
     let own = v.setup.own in
-    let raising = fold (on_row (λ x. raised_row own own x.time)) v.rows in
+    let raising = posted_rows own v.rows in
     let pending : c.written_in-pending.result.now ≡ v.pending = c.written_in-pending.ensures.value in
     let history : g.H.History.items c.append.new.history ≡ v.history ++ v.pending = c.append.ensures.list ∙ ap (λ l. v.history ++ l) pending in
     let raise : c.raise_posted.new.self.rows ≡ raising v.pending = c.raise_posted.ensures.rows ∙ ap raising pending in
