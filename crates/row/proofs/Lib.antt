@@ -1,5 +1,6 @@
 pub mod Finding
 pub mod Kept
+pub mod Sorting
 pub mod RowLaws
 pub mod Sifting
 pub mod Stepping

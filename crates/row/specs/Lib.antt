@@ -1,3 +1,4 @@
 pub mod Entries
 pub mod Passes
+pub mod Sorting
 pub mod Rows

@@ -2,6 +2,7 @@
 ghost use Rattle.std.specs.Prelude.{◌≡◌, ◌+◌, ◌<◌, ◌≤◌, ◌++◌, length, slice_index_or};
 ghost use Rattle.std.specs.List.{remove};
 ghost use Rattle.action.specs.Order.{placed, place_of};
+ghost use Rattle.row.specs.Sorting.{Sorted};
 
 use action::Action;
 use history::History;
@@ -23,22 +24,34 @@ pub(crate) fn take_out<H: History>(history: &mut H, i: usize)
     history.remove(i).unwrap();
 }
 
-// The place behind the last action that precedes this one, looked for from the end, since what comes
-// is mostly later than what is there. By places, since the walk by `actions` goes from the front alone.
+// The place behind the last action that precedes this one. What comes is mostly later than all that is there,
+// so the end is looked at first; else the place is looked for by halves.
 fn place_of<H: History>(history: &H, action: &Action) -> usize
+    requires { Sorted (H.items history.now) }
     ensures { result ≡ place_of (H.items history.now) action.now }
 {
-    for i in (0..history.count()).rev() {
-        if place(history, i).precedes(action) {
-            return i + 1;
+    let mut low = 0;
+    let mut high = history.count();
+    if high > 0 && place(history, high - 1).precedes(action) {
+        return high;
+    }
+    while low < high {
+        let middle = low + (high - low) / 2;
+        if place(history, middle).precedes(action) {
+            low = middle + 1;
+        } else {
+            high = middle;
         }
     }
-    0
+    low
 }
 
-// Puts the action at its place in the history.
+// Puts the action at its place in the history, which stays sorted.
+#[tactic(auto, using(crate::proofs::Sorting::placed_sorted))]
 pub(crate) fn insert_in_order<H: History>(history: &mut H, action: &Action)
-    requires { length (H.items history.old) < H.room history.old }
+    requires room { length (H.items history.old) < H.room history.old }
+    requires sorted { Sorted (H.items history.old) }
+    ensures sorted { Sorted (H.items history.new) }
     ensures list { H.items history.new ≡ placed (H.items history.old) action.now }
     ensures fixed { H.room history.new ≡ H.room history.old }
 {

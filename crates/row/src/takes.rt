@@ -5,6 +5,7 @@ ghost use Rattle.message.specs.Found.{told};
 ghost use Rattle.message.specs.Walks.{intervals_of, records_in};
 ghost use Rattle.row.specs.Passes.{latest_to, new_actions};
 ghost use Rattle.row.specs.Rows.{raised_by_message, raised_rows, reworked_rows, stepped_rows};
+ghost use Rattle.row.specs.Sorting.{Sorted};
 
 use crate::ledgers::Ledger;
 use crate::places::insert_in_order;
@@ -24,7 +25,8 @@ impl Ledger {
 
     // Puts the message's new actions at their places in the history.
     pub fn insert_new<H: History>(&self, history: &mut H, bytes: &[u8])
-        requires { length (H.items history.old) + length (new_actions self.now.rows self.now.setup.own bytes.now)
+        requires sorted { Sorted (H.items history.old) }
+        requires room { length (H.items history.old) + length (new_actions self.now.rows self.now.setup.own bytes.now)
             ≤ H.room history.old }
         ensures list { H.items history.new
             ≡ fold placed (H.items history.old) (new_actions self.now.rows self.now.setup.own bytes.now) }

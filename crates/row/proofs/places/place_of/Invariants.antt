@@ -1,9 +1,17 @@
-use Rattle.std.proofs.Common.{◌≡◌, take}
-use Rattle.action.specs.Order.{place_of}
+use Rattle.std.proofs.Common.{◌≡◌, ℕ, ◌-◌, ◌<◌, ◌≤◌, true, false, length, get_or}
+use Rattle.action.specs.Order.{precedes}
 use Rattle.row.proofs.places.place_of.Given as goal
 
--- the place lies within what is left to look at
-abbrev pub invariant-loop-i : goal.invariant-loop-i
-invariant-loop-i g l =
+-- what is before the part that is left precedes the action, and nothing behind it does
+abbrev pub invariant-loop-low : goal.invariant-loop-low
+invariant-loop-low g l =
     let xs = g.H.History.items l.history in
-    place_of xs l.action ≡ place_of (take l.i xs) l.action
+    record {
+      order : l.low ≤ l.high;
+      within : l.high ≤ length xs;
+      before : 0 < l.low → precedes (get_or xs (l.low - 1) l.action) l.action ≡ true;
+      behind : (k : ℕ) → l.high ≤ k → k < length xs → precedes (get_or xs k l.action) l.action ≡ false;
+    }
+
+abbrev pub decreases-loop-low : goal.decreases-loop-low
+decreases-loop-low g l = l.high - l.low
