@@ -69,7 +69,7 @@ impl Ledger {
 
     // Raises the entries by all intervals of the message, and answers the clock raised to the greatest
     // time that they go up to.
-    fn raise_all(&mut self, bytes: &[u8], clock: u32) -> u32
+    pub fn raise_all(&mut self, bytes: &[u8], clock: u32) -> u32
         ensures times { result ≡ latest_to clock (intervals_of 0 (records_in bytes.now)) }
         ensures rows { self.new.rows ≡ raised_by_message self.old.setup.own bytes.now self.old.rows }
         ensures fixed { self.new.setup ≡ self.old.setup }

@@ -1,16 +1,35 @@
 -- What taking a message does to the rows. Assumes nothing.
-use Rattle.std.proofs.Common.{◌≡◌, ℕ, ◌<◌, Bool, true, false, cond, eqb, List, length, get_or, fold, filter, refl, ap, ◌∙◌, arith}
+use Rattle.std.proofs.Common.{◌≡◌, ℕ, ◌<◌, Bool, true, false, cond, eqb, List, [], length, ℤ, get_or, fold, filter, sym, refl, ap, ◌∙◌, arith}
+use Rattle.action.specs.Order.{placed}
 use Rattle.kind.specs.Meaning.{Meaning}
 use Rattle.kind.specs.Working.{on, working}
 use Rattle.message.specs.declared.records.Interval.{Interval}
-use Rattle.message.specs.Format.{Message, stretches}
+use Rattle.message.specs.Format.{Message, records, stretches}
+use Rattle.message.specs.Walks.{actions_of, intervals_of, record_in, records_in, sender_in}
+use Rattle.message.proofs.Carried.{carried_of, stretches_of}
+use Rattle.message.proofs.Walking.{record_begins}
 use Rattle.row.specs.declared.rows.Row.{Row}
 use Rattle.row.specs.Rows.{raised_row_by, raised_rows, reworked_rows, stepped_rows}
-use Rattle.row.specs.Passes.{raised_by}
+use Rattle.row.specs.Passes.{new_actions, raised_by}
 use Rattle.row.specs.Entries.{each_row, no_row}
 use Rattle.row.proofs.RowLaws.{by_rows, length_on_articles, length_reworked, length_stepped, row_on_articles, row_reworked, row_stepped, told_by}
-use Rattle.table.specs.Taking.{news, taken_history, taken_row}
+use Rattle.table.specs.Taking.{is_new, news, taken_history, taken_row}
 use Rattle.table.specs.View.{View}
+
+-- READ FROM BYTES
+
+-- what the passes read of a message's bytes is the message's
+module _ (m : Message) (bytes : List ℕ) (is : records_in bytes ≡ records m) where
+  pub intervals_in : intervals_of 0 (records_in bytes) ≡ stretches m
+  intervals_in = ap (intervals_of 0) is ∙ stretches_of 0 m
+
+  pub sender_is : sender_in (record_in bytes) ≡ m.sender
+  sender_is = ap sender_in (record_begins bytes _ _ is)
+
+pub new_in : (v : View) (m : Message) (bytes : List ℕ) → records_in bytes ≡ records m → new_actions v.rows v.setup.own bytes ≡ news v m
+new_in v m bytes is = ap (λ rs. filter (is_new v) (actions_of rs)) is ∙ ap (filter (is_new v)) (carried_of m)
+
+-- THE ROWS
 
 module _ (kind : Meaning) (v : View) (m : Message) where
   abbrev own : ℕ
@@ -60,3 +79,16 @@ module _ (kind : Meaning) (v : View) (m : Message) where
 
   pub rows_recorded : recorded kind.commutes ≡ each_row (taken_row kind v m) 0 v.rows
   rows_recorded = by_rows (taken_row kind v m) v.rows (recorded kind.commutes) (long kind.commutes) (each kind.commutes)
+
+  -- where nothing is new and the figures are worked, only the entries change
+  pub rows_raised : news v m ≡ [] → ((a : ℕ) → a < length v.rows → (get_or v.rows a no_row).kept ≡ working kind.steps (get_or v.rows a no_row).base (on a v.history)) → told v.rows ≡ each_row (taken_row kind v m) 0 v.rows
+  rows_raised none worked = by_rows (taken_row kind v m) v.rows (told v.rows) (long_told v.rows) at
+    where
+      kept : (r : Row) (a : ℕ) → r.kept ≡ working kind.steps r.base (on a v.history) → (commutes : Bool) → r.kept ≡ cond commutes (working kind.steps r.kept (on a (news v m))) (working kind.steps r.base (on a (taken_history v m)))
+      kept r a is true = ap (λ xs. working kind.steps r.kept (on a xs)) (sym none)
+      kept r a is false = is ∙ ap (λ xs. working kind.steps r.base (on a (fold placed v.history xs))) (sym none)
+
+      at : (a : ℕ) → a < length v.rows → get_or (told v.rows) a no_row ≡ taken_row kind v m a (get_or v.rows a no_row)
+      at a within =
+          let r = get_or v.rows a no_row in
+          row_told v.rows a within ∙ ap (λ (k : ℤ). record { base = r.base; kept = k; known = fold (raised_by own m.sender) r.known (hs_on a) }) (kept r a (worked a within) kind.commutes)

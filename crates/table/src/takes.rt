@@ -14,19 +14,26 @@ use kind::Kind;
 use message::check;
 
 impl<H: History> Store<H> {
-    // Records what a message carries. What is new is judged by the entries before they are raised.
-    fn absorb<K: Kind>(&mut self, bytes: &[u8])
-        requires { length self.old.history + length (new_actions self.old.rows self.old.setup.own bytes.now)
-            ≤ self.old.capacity }
+    // Records what a message carries, of which so many actions are new. What is new is judged by the entries
+    // before they are raised. Where nothing is, the figures are what they were.
+    fn absorb<K: Kind>(&mut self, bytes: &[u8], new: usize)
+        requires sound { Sound K.means self.old }
+        requires counted { new ≡ length (new_actions self.old.rows self.old.setup.own bytes.now) }
+        requires room { length self.old.history + new ≤ self.old.capacity }
         ensures { (m : Message) → records_in bytes.now ≡ records m → self.new ≡ taken K.means self.old m }
     {
         let Store { state, history } = self;
+        if new == 0 {
+            state.clock = state.ledger.raise_all(bytes, state.clock);
+            return;
+        }
         state.ledger.insert_new(history, bytes);
         state.clock = state.ledger.record::<K, H>(history, bytes, state.clock);
     }
 
     // Takes a message whole, or refuses it and changes nothing.
     fn take<K: Kind>(&mut self, bytes: &[u8]) -> Result<usize, TableFault>
+        requires { Sound K.means self.old }
         ensures { Took K.means self.old bytes.now result self.new }
     {
         self.state.check_closed()?;
@@ -39,7 +46,7 @@ impl<H: History> Store<H> {
         }
         let new = self.state.ledger.count_new(bytes);
         self.check_room(new)?;
-        self.absorb::<K>(bytes);
+        self.absorb::<K>(bytes, new);
         Ok(new)
     }
 }

@@ -1,8 +1,7 @@
-use Rattle.std.proofs.Common.{sym, refl, ap, ◌∙◌, ◌+◌, ◌≤◌, Ok, length, subst, rules}
+use Rattle.std.proofs.Common.{sym, refl, ap, ◌∙◌, Ok, subst, rules}
 use Rattle.std.proofs.lemmas.Bool.{not-true}
 use Rattle.std.proofs.lemmas.Result.{err_from_is_err_and}
 use Rattle.action.specs.Lawful.{by_history, by_table}
-use Rattle.row.specs.Passes.{new_actions}
 use Rattle.table.specs.Taking.{TakeRefused, Took, taken}
 use Rattle.table.specs.View.{View}
 use Rattle.table.proofs.Refusals.{no_room, room, take_ahead, take_behind, take_full, take_whole, told}
@@ -29,12 +28,6 @@ returns g c =
     let is = told g.K.Kind.means g.met.K.Kind.number_fits v shut found.0 found.1 _ found.2 in
     let free = room c.self.view_is c.args.bytes.now c.count_new-new.ensures c.in_ok-check_room.ensures in
     subst (λ (v : View). Took g.K.Kind.means v c.args.bytes.now (Ok c.count_new-new.result) c.absorb.new.self) c.self.view_is (take_whole g.K.Kind.means g.met.K.Kind.number_fits v shut found.0 found.1 _ found.2 c.in_default.ensures c.in_default-first_ahead.ensures free _ _ c.count_new-new.ensures (c.absorb.ensures found.0 is ∙ ap (λ (v : View). taken g.K.Kind.means v found.0) (sym c.self.view_is)))
-
-pub absorb-requires : goal.absorb-requires
-absorb-requires g c =
-    let v = view_in c.self.view_is in
-    let free = room c.self.view_is c.args.bytes.now c.count_new-new.ensures c.in_ok-check_room.ensures in
-    subst (λ (v : View). length v.history + length (new_actions v.rows v.setup.own c.args.bytes.now) ≤ v.capacity) c.self.view_is free
 
 pub returns-in_err-check : goal.returns-in_err-check
 returns-in_err-check g c =
