@@ -1,7 +1,7 @@
 -- Each committed movement is counted once, and where nothing is open all sites are level. Assumes nothing.
 use Rattle.std.proofs.Common.{◌≡◌, ℕ, ◌<◌, ◌≤◌, Bool, true, ◌&&◌, eqb, List, ◌++◌, filter, sym, ap, ◌∙◌, subst, arith}
 use Rattle.std.specs.List.{ContainsAt as Has}
-use Rattle.std.proofs.ByRecursion.{all-has}
+use Rattle.std.proofs.ByRecursion.{all-has, All-weaker}
 use Rattle.std.proofs.lemmas.Bool.{and_from, and_parts, eq-eqb, eqb-true, le-leb, leb-true, ltb-false}
 use Rattle.action.specs.declared.orders.Action.{Action}
 use Rattle.action.specs.Order.{in_order}
@@ -14,8 +14,8 @@ use Rattle.kind.specs.Working.{on, working}
 use Rattle.kind.proofs.Workings.{working_append}
 use Rattle.table.specs.Answers.{figure}
 use Rattle.table.specs.View.{View, entry}
-use Rattle.runs.specs.Books.{Book, book, counted, reaches}
-use Rattle.runs.specs.Laws.{CountsEachOnce, LevelWhereNothingOpen, NothingOpen}
+use Rattle.runs.specs.Books.{Book, book, counted, counted_by_all, reaches}
+use Rattle.runs.specs.Laws.{CountsEachOnce, HadByItsCoordinator, LevelWhereNothingOpen, NothingOpen}
 use Rattle.runs.specs.Lines.{Line}
 use Rattle.runs.specs.Runs.{Page}
 use Rattle.runs.proofs.Sites.{few_articles, own_is}
@@ -61,9 +61,17 @@ module _ (kind : Meaning) (page : Page) (lines : List Line) (views : ℕ → Vie
   abbrev b : Book
   b = book page lines
 
+  had : (x : Action) → Recorded page b x → HadByItsCoordinator page b x
+  had x known = record {
+    coordinated = known.coordinated;
+    listed = known.listed;
+    had = le-leb x.time (b.reach x.coordinator x.article x.coordinator) known.had;
+  }
+
   pub counts_each_once : CountsEachOnce kind page lines views
   counts_each_once = record {
     distinct = st.ledger.distinct;
+    had = All-weaker (Recorded page b) (HadByItsCoordinator page b) had b.committed st.ledger.each;
     vector = λ s a q sl al ql. (st.sites s sl).vector a q al ql;
     figured = λ s a sl al. counts kind page b st.ledger s sl (views s) (st.sites s sl) a al;
   }
@@ -78,23 +86,26 @@ module _ (kind : Meaning) (page : Page) (lines : List Line) (views : ℕ → Vie
         let known : entry (views q) a q q ≤ entry (views q) a s q = subst (λ (n : ℕ). entry (views q) a n n ≤ entry (views q) a s n) own shut in
         omega (arith, site.vector a q al ql, site.believed a s q al sl ql, st.ledger.no_more s a q sl al ql)
 
-    same_reach : (s t q : ℕ) → s < page.sites → t < page.sites → q < page.sites → b.reach s a q ≡ b.reach t a q
-    same_reach s t q sl tl ql = level_reach s q sl ql ∙ sym (level_reach t q tl ql)
-
-    -- so it has the same actions
-    same_actions : (s t : ℕ) → s < page.sites → t < page.sites → (x : Action) → Reached b s a x → Reached b t a x
-    same_actions s t sl tl x r =
-        let known = all-has (Recorded page b) b.committed x st.ledger.each r.0 in
-        (r.0, r.1, omega (arith, r.2, same_reach s t x.coordinator sl tl known.coordinated))
-
-    same_list : (s t : ℕ) (sl : s < page.sites) (tl : t < page.sites) → ((st.sites s sl).gathered a al).archived ++ on a (views s).history ≡ ((st.sites t tl).gathered a al).archived ++ on a (views t).history
-    same_list s t sl tl =
+    -- so what it has of the article is all that is committed on it, in order
+    all_committed : (s : ℕ) (sl : s < page.sites) → ((st.sites s sl).gathered a al).archived ++ on a (views s).history ≡ in_order (on a b.committed)
+    all_committed s sl =
+        let on_it : Action → Bool = λ x. eqb x.article a in
         let g = (st.sites s sl).gathered a al in
-        let h = (st.sites t tl).gathered a al in
-        ascending_same (g.archived ++ on a (views s).history) (h.archived ++ on a (views t).history) g.ordered h.ordered (λ x k. h.whole x (same_actions s t sl tl x (g.sure x k))) (λ x k. g.whole x (same_actions t s tl sl x (h.sure x k)))
+        ascending_same (g.archived ++ on a (views s).history) (in_order (on a b.committed)) g.ordered (in_order_ascending (on a b.committed) (distinct_kept on_it b.committed st.ledger.distinct))
+        (λ x h. let r = g.sure x h in has_in_order (on a b.committed) x (has_kept_by on_it b.committed x r.0 (eq-eqb x.article a r.1)))
+        (λ x h.
+        let k = has_kept_by_parts on_it b.committed x (in_order_has (on a b.committed) x h) in
+        let is : x.article ≡ a = eqb-true x.article a k.1 in
+        let known = all-has (Recorded page b) b.committed x st.ledger.each k.0 in
+        let done : x.time ≤ b.reach x.coordinator a x.coordinator = subst (λ (n : ℕ). x.time ≤ b.reach x.coordinator n x.coordinator) is known.had in
+        g.whole x (k.0, is, omega (arith, done, level_reach s x.coordinator sl known.coordinated)))
 
-    pub level : LevelWhereNothingOpen page views a
+    whole : (s : ℕ) → s < page.sites → figure (views s) a ≡ counted_by_all kind b a
+    whole s sl = whole_working kind page b st.ledger s sl (views s) (st.sites s sl) a al ∙ ap (working kind.steps kind.starts) (all_committed s sl)
+
+    pub level : LevelWhereNothingOpen kind page lines views a
     level = record {
-      same_figure = λ s t sl tl. whole_working kind page b st.ledger s sl (views s) (st.sites s sl) a al ∙ ap (working kind.steps kind.starts) (same_list s t sl tl) ∙ sym (whole_working kind page b st.ledger t tl (views t) (st.sites t tl) a al);
-      same_vector = λ s t q sl tl ql. (st.sites s sl).vector a q al ql ∙ same_reach s t q sl tl ql ∙ sym ((st.sites t tl).vector a q al ql);
+      whole = whole;
+      same_figure = λ s t sl tl. whole s sl ∙ sym (whole t tl);
+      same_vector = λ s t q sl tl ql. (st.sites s sl).vector a q al ql ∙ level_reach s q sl ql ∙ sym (level_reach t q tl ql) ∙ sym ((st.sites t tl).vector a q al ql);
     }

@@ -5,7 +5,7 @@ use Rattle.std.specs.List.{range_with_len}
 use Rattle.action.specs.declared.orders.Action.{Action}
 use Rattle.action.specs.Order.{in_order}
 use Rattle.kind.specs.Meaning.{Meaning}
-use Rattle.kind.specs.Working.{working}
+use Rattle.kind.specs.Working.{on, working}
 use Rattle.message.specs.Walks.{intervals_of, records_in}
 use Rattle.table.specs.Taking.{highest}
 use Rattle.table.specs.Transactions.{latest}
@@ -91,3 +91,7 @@ reaches b s x = nat_le x.time (b.reach s x.article x.coordinator)
 -- the article's figure, by all the committed actions on it that the site has, each once and in order
 abbrev pub counted : Meaning → Book → ℕ → ℕ → ℤ
 counted kind b s a = working kind.steps kind.starts (in_order (filter (λ x. (x.article == a) && reaches b s x) b.committed))
+
+-- the article's figure by all the committed actions on it, each once and in order
+abbrev pub counted_by_all : Meaning → Book → ℕ → ℤ
+counted_by_all kind b a = working kind.steps kind.starts (in_order (on a b.committed))
