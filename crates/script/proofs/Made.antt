@@ -53,7 +53,7 @@ module _ (page : Page) (three : page.sites ≡ 3) (run : List Line) (d : DeskVie
 
   -- what a command that writes into a slot makes, and what it leaves
   abbrev pub Goes : Command → Outcome → Type 0
-  Goes c o = (calls : List Line) × Makes page run c o.answer calls × Ran on_hand page (calls ++ run) (table_at (with_table d site o.table)) × Kept (calls ++ run) o.slot
+  Goes c o = (calls : List Line) × Makes page run d c o.answer calls × Ran on_hand page (calls ++ run) (table_at (with_table d site o.table)) × Kept (calls ++ run) o.slot
 
   -- M
 
@@ -96,7 +96,7 @@ module _ (page : Page) (three : page.sites ≡ 3) (run : List Line) (d : DeskVie
         commit_granted_goes : commit_refusal on_hand x t ≡ None → Goes c (record { table = committed on_hand x; slot = message; answer = Ok (Time (next_time u)) })
         commit_granted_goes can-commit = (
           at site commits ∷ (at site (writes (Ok (next_time u))) ∷ (at site opens ∷ [])),
-          moves site article slot amount t (next_time u) blank (overwritten blank 0 message) (length x.pending, length message),
+          moves site article slot amount t (next_time u) (overwritten blank 0 message) (length x.pending, length message),
           on so_far commits x (committed on_hand x) write_ran (can-commit, refl, refl, refl, refl) tt,
           kept_now (at site commits) so_far message (held_written blank message (length message) refl),
         )
@@ -106,7 +106,7 @@ module _ (page : Page) (three : page.sites ≡ 3) (run : List Line) (d : DeskVie
             let call : Call = Commits t blank (Err (e, t)) blank in
             let calls : List Line = at site (Abandons t (Ok tt)) ∷ (at site call ∷ (at site (writes (Ok (next_time u))) ∷ (at site opens ∷ []))) in
             let refused = on so_far call x x write_ran (is, refl, refl, refl) tt in
-            (calls, commit_refused site article slot amount t (next_time u) blank e, on (at site call ∷ so_far) (Abandons t (Ok tt)) x (abandoned x) refused (own_ticket v x.pending, refl) tt, kept_after calls run held kept)
+            (calls, commit_refused site article slot amount t (next_time u) e, on (at site call ∷ so_far) (Abandons t (Ok tt)) x (abandoned x) refused (own_ticket v x.pending, refl) tt, kept_after calls run held kept)
 
         write_granted_goes : Goes c (moved_written v x (next_time u) held)
         write_granted_goes =
@@ -139,12 +139,12 @@ module _ (page : Page) (three : page.sites ≡ 3) (run : List Line) (d : DeskVie
     offer_granted_goes : offer_refusal on_hand v peer article blank ≡ None → Goes offer (record { table = v; slot = bytes; answer = Ok (Length (length bytes)) })
     offer_granted_goes can-offer =
         let call : Call = Offers peer article blank (Ok (length bytes)) (overwritten blank 0 bytes) in
-        (at site call ∷ [], offers site peer article slot blank (overwritten blank 0 bytes) (Ok (length bytes)), on run call v v start ((can-offer, refl, refl), refl) tt, kept_now (at site call) run bytes (held_written blank bytes (length bytes) refl))
+        (at site call ∷ [], offers site peer article slot (overwritten blank 0 bytes) (Ok (length bytes)), on run call v v start ((can-offer, refl, refl), refl) tt, kept_now (at site call) run bytes (held_written blank bytes (length bytes) refl))
 
     offer_refused_goes : (e : TableFault) → offer_refusal on_hand v peer article blank ≡ Some (shown e) → Goes offer (refused_at v held (shown e))
     offer_refused_goes e is =
         let call : Call = Offers peer article blank (Err e) blank in
-        (at site call ∷ [], offers site peer article slot blank blank (Err e), on run call v v start ((is, refl), refl) tt, kept_after (at site call ∷ []) run held kept)
+        (at site call ∷ [], offers site peer article slot blank (Err e), on run call v v start ((is, refl), refl) tt, kept_after (at site call ∷ []) run held kept)
 
     pub offer_goes : Goes offer (offered v peer article held)
     offer_goes = by_decision (Goes offer) (offer_refusal on_hand v peer article blank) (refused_at v held) (record { table = v; slot = bytes; answer = Ok (Length (length bytes)) }) (offer_faults v peer article blank) offer_refused_goes offer_granted_goes

@@ -23,7 +23,7 @@ use Rattle.script.specs.Acts.{Outcome, Reply, decided, figured, flagged, refuse}
 use Rattle.script.specs.Desk.{Acts, DeskView, FreshDesk, FreshSite, Runs, RunsCommand, SiteTurn, settled, table_at, with_slots, with_table}
 use Rattle.script.specs.Lines.{command}
 use Rattle.script.specs.Scripts.{RunsAll, Scripted}
-use Rattle.script.specs.Standing.{AfterRun, Kept, LineStands, Makes, NewStands, PlaysAll, PlaysCommand, ScriptStands, at, counted_figure}
+use Rattle.script.specs.Standing.{AfterRun, Kept, LineStands, Makes, MakesLine, NewStands, PlaysAll, ScriptStands, at, counted_figure}
 use Rattle.script.specs.Standing.Makes.{takes, figures, flags}
 use Rattle.script.proofs.Further.{kept_at, slots_kept, slots_stay, stands_further}
 use Rattle.script.proofs.Made.{Goes, move_goes, offer_goes, take_ran}
@@ -58,7 +58,7 @@ figure_or_four false z y same = refl
 module _ (page : Page) (run : List Line) (d : DeskView) (stood : AfterRun page run d) where
   -- after a command: the calls that it made, and the desk at the end of the longer run
   abbrev Goes_on : Command → Reply → DeskView → Type 0
-  Goes_on c a after = (calls : List Line) × Makes page run c a calls × AfterRun page (calls ++ run) after
+  Goes_on c a after = (calls : List Line) × Makes page run d c a calls × AfterRun page (calls ++ run) after
 
   module _ (site : ℕ) (acts : site < 3) where
     -- the desk with the site's table and the slots that are there now
@@ -74,13 +74,13 @@ module _ (page : Page) (run : List Line) (d : DeskView) (stood : AfterRun page r
     writes c slot o a after goes is others =
         let calls = goes.0 in
         let left : after ≡ with_slots (with_table d site o.table) (set d.slots slot o.slot) = others ∙ (λ i. with_slots (with_table d site (is i).table) (is i).slots) in
-        (calls, subst (λ b. Makes page run c b calls) (sym (λ i. (is i).answer)) goes.1, subst (AfterRun page (calls ++ run)) (sym left) (stands_further page run d stood calls site o.table (set d.slots slot o.slot) goes.2 (slots_kept page run d stood calls slot o.slot goes.3)))
+        (calls, subst (λ b. Makes page run d c b calls) (sym (λ i. (is i).answer)) goes.1, subst (AfterRun page (calls ++ run)) (sym left) (stands_further page run d stood calls site o.table (set d.slots slot o.slot) goes.2 (slots_kept page run d stood calls slot o.slot goes.3)))
 
     -- a command that changes nothing
-    leaves : (c : Command) (a b : Reply) (after : DeskView) → Makes page run c b [] → turn after a ≡ turn d b → after ≡ now after → Goes_on c a after
+    leaves : (c : Command) (a b : Reply) (after : DeskView) → Makes page run d c b [] → turn after a ≡ turn d b → after ≡ now after → Goes_on c a after
     leaves c a b after made is others =
         let same : after ≡ d = others ∙ (λ i. with_slots (with_table d site (is i).table) (is i).slots) ∙ sym (as_it_was d site) in
-        ([], subst (λ r. Makes page run c r []) (sym (λ i. (is i).answer)) made, subst (AfterRun page run) (sym same) stood)
+        ([], subst (λ r. Makes page run d c r []) (sym (λ i. (is i).answer)) made, subst (AfterRun page run) (sym same) stood)
 
     -- the site has four articles, and its figures are those that the run counts
     counts : (article : ℕ) → figured (table_at d site) article ≡ counted_figure page run site article
@@ -103,28 +103,30 @@ module _ (page : Page) (run : List Line) (d : DeskView) (stood : AfterRun page r
       let w = table_at after site in
       let left : after ≡ with_slots (with_table d site w) d.slots = others ∙ ap (with_slots (with_table d site w)) stay in
       let kept = kept_at run d.slots slot stood.slots in
-      (calls, subst (λ b. Makes page run (Take site slot) b calls) (sym told) (takes site slot bytes r), subst (AfterRun page (calls ++ run)) (sym left) (stands_further page run d stood calls site w d.slots (take_ran page stood.sites_are run d stood.ran site ranged bytes r w kept took) (slots_stay page run d stood calls)))
+      (calls, subst (λ b. Makes page run d (Take site slot) b calls) (sym told) (takes site slot r), subst (AfterRun page (calls ++ run)) (sym left) (stands_further page run d stood calls site w d.slots (take_ran page stood.sites_are run d stood.ran site ranged bytes r w kept took) (slots_stay page run d stood calls)))
   command_goes_on (Figure site article) a after ranged is =
-      leaves site ranged (Figure site article) a (figured (table_at d site) article) after (subst (λ b. Makes page run (Figure site article) b []) (sym (counts site ranged article)) (figures site article)) is.0 is.1
-  command_goes_on (OpenItem site peer article) a after ranged is = leaves site ranged (OpenItem site peer article) a (flagged (table_at d site) peer article) after (flags site peer article _) is.0 is.1
+      leaves site ranged (Figure site article) a (figured (table_at d site) article) after (subst (λ b. Makes page run d (Figure site article) b []) (sym (counts site ranged article)) (figures site article)) is.0 is.1
+  command_goes_on (OpenItem site peer article) a after ranged is = leaves site ranged (OpenItem site peer article) a (flagged (table_at d site) peer article) after (flags site peer article) is.0 is.1
 
 -- ONE LINE, AND ONE AFTER ANOTHER
 
 pub line_stands : (d : DeskView) (line : List ℕ) (after : DeskView) (bytes : List ℕ) → Runs d line after bytes → LineStands d line after bytes
-line_stands d line after bytes runs page run stood = by_command (command line) (command_ranged line) runs
+line_stands d line after bytes runs page run stood =
+    let goes = by_command (command line) (command_ranged line) runs in
+    (goes.0, (runs, goes.1, goes.2))
   where
-    by_command : (o : Option Command) → IfSome o Ranged → RunsCommand d o after bytes → (calls : List Line) × PlaysCommand page run o calls bytes × AfterRun page (calls ++ run) after
+    by_command : (o : Option Command) → IfSome o Ranged → RunsCommand d o after bytes → (calls : List Line) × MakesLine page run d o calls bytes × AfterRun page (calls ++ run) after
     by_command None ranged is = ([], (refl, is.1), subst (AfterRun page run) (sym is.0) stood)
     by_command (Some c) ranged is =
         let goes = command_goes_on page run d stood c is.0 after ranged is.1 in
         (goes.0, (is.0, goes.1, is.2), goes.2)
 
-lines_stand : (page : Page) (run : List Line) (d : DeskView) (lines : List (List ℕ)) (after : DeskView) (bytes : List ℕ) → RunsAll d lines after bytes → AfterRun page run d → (later : List Line) × PlaysAll page run lines later bytes × AfterRun page later after
-lines_stand page run d [] after bytes is stood = (run, (refl, is.1), subst (AfterRun page run) (sym is.0) stood)
+lines_stand : (page : Page) (run : List Line) (d : DeskView) (lines : List (List ℕ)) (after : DeskView) (bytes : List ℕ) → RunsAll d lines after bytes → AfterRun page run d → (later : List Line) × PlaysAll page run d lines later after bytes × AfterRun page later after
+lines_stand page run d [] after bytes is stood = (run, (refl, is.0, is.1), subst (AfterRun page run) (sym is.0) stood)
 lines_stand page run d (line ∷ lines) after bytes (between, sheet, rest, first, others, is) stood =
     let one = line_stands d line between sheet first page run stood in
-    let all = lines_stand page (one.0 ++ run) between lines after rest others one.2 in
-    (all.0, (one.0, sheet, rest, one.1, all.1, is), all.2)
+    let all = lines_stand page (one.0 ++ run) between lines after rest others one.1.2 in
+    (all.0, (one.0, between, sheet, rest, one.1, all.1, is), all.2)
 
 pub script_stands : (d : DeskView) (input out : List ℕ) (r : Result Unit AllocError) (after : DeskView) (grown : List ℕ) → Scripted d input out r after grown → ScriptStands d input out r after grown
 script_stands d input out (Ok _) after grown (sheet, all, is) page run stood =
@@ -133,7 +135,7 @@ script_stands d input out (Ok _) after grown (sheet, all, is) page run stood =
 script_stands d input out (Err _) after grown (done, line, rest, split, between, sheet, lost, all, last, is) page run stood =
     let stands = lines_stand page run d done between sheet all stood in
     let one = line_stands between line after lost last page stands.0 stands.2 in
-    (done, line, rest, split, stands.0, sheet, stands.1, one.0, lost, one.1, one.2, is)
+    (done, line, rest, split, stands.0, between, sheet, stands.1, one.0, lost, one.1, is)
 
 -- A NEW DESK
 

@@ -1,6 +1,6 @@
 -- A script as part of a run of the three tables: which calls its lines make, and that its figures are those that
 -- the run counts. Assumes nothing.
-use Rattle.std.specs.Prelude.{◌≡◌, ℕ, cond, ◌⊎◌, List, [], ◌∷◌, ◌++◌, map, ℤ, Some, None, Ok, Err, Option, Result, nat_lt}
+use Rattle.std.specs.Prelude.{◌≡◌, ℕ, cond, ◌⊎◌, List, [], ◌∷◌, ◌++◌, map, ℤ, Some, None, Ok, Err, Option, Result, nat_lt, slice_index_or}
 use Rattle.std.specs.List.{ContainsAt as Has, AllByRecursion}
 use Rattle.std.specs.declared.alloc.AllocError.{AllocError}
 use Rattle.kind.specs.Meanings.{on_hand}
@@ -14,11 +14,12 @@ use Rattle.runs.specs.Runs.{Page, Ran}
 use Rattle.script.specs.declared.answers.Answer.TheVariants as Answers
 use Rattle.script.specs.declared.commands.Command.{Command}
 use Rattle.script.specs.declared.commands.Command.TheVariants.{Move, Offer, Take, Figure, OpenItem}
-use Rattle.script.specs.Acts.{Reply, newly, refuse}
-use Rattle.script.specs.Desk.{DeskView, letter, table_at}
+use Rattle.script.specs.Acts.{Reply, flagged, newly, refuse}
+use Rattle.script.specs.Desk.{DeskView, Runs, letter, table_at}
 use Rattle.script.specs.Lines.{command}
 use Rattle.script.specs.Scripts.{script}
 use Rattle.script.specs.Sheets.{printed}
+use Rattle.script.specs.Slots.{blank}
 
 -- THE DESK
 
@@ -49,42 +50,45 @@ abbrev pub measured : Result ℕ TableFault → Reply
 measured (Ok n) = Ok (Answers.Length n)
 measured (Err e) = refuse (shown e)
 
--- after this run a command makes these calls, the latest first, and answers this
-pub data Makes (page : Page) (run : List Line) : Command → Reply → List Line → Type 0 where
+-- after this run, which led to this desk, a command makes these calls, the latest first, and answers this
+pub data Makes (page : Page) (run : List Line) (d : DeskView) : Command → Reply → List Line → Type 0 where
   -- M: open, write and commit; where the write or the commit is refused the transaction is abandoned
-  moves : (site article slot : ℕ) (amount : ℤ) (t : Ticket) (time : ℕ) (buffer after : List ℕ) (n : ℕ × ℕ) → Makes page run (Move site article amount slot) (Ok (Answers.Time time)) (at site (Commits t buffer (Ok n) after) ∷ (at site (Writes t article 1 amount (Ok time)) ∷ (at site (Opens (Ok t)) ∷ [])))
-  commit_refused : (site article slot : ℕ) (amount : ℤ) (t : Ticket) (time : ℕ) (buffer : List ℕ) (e : TableFault) → Makes page run (Move site article amount slot) (refuse (shown e)) (at site (Abandons t (Ok tt)) ∷ (at site (Commits t buffer (Err (e, t)) buffer) ∷ (at site (Writes t article 1 amount (Ok time)) ∷ (at site (Opens (Ok t)) ∷ []))))
-  write_refused : (site article slot : ℕ) (amount : ℤ) (t : Ticket) (e : TableFault) → Makes page run (Move site article amount slot) (refuse (shown e)) (at site (Abandons t (Ok tt)) ∷ (at site (Writes t article 1 amount (Err e)) ∷ (at site (Opens (Ok t)) ∷ [])))
-  open_refused : (site article slot : ℕ) (amount : ℤ) (e : TableFault) → Makes page run (Move site article amount slot) (refuse (shown e)) (at site (Opens (Err e)) ∷ [])
-  -- O and T
-  offers : (site peer article slot : ℕ) (buffer after : List ℕ) (r : Result ℕ TableFault) → Makes page run (Offer site peer article slot) (measured r) (at site (Offers peer article buffer r after) ∷ [])
-  takes : (site slot : ℕ) (bytes : List ℕ) (r : Result ℕ TableFault) → Makes page run (Take site slot) (newly r) (at site (Takes bytes r) ∷ [])
-  -- F and P change no table
-  figures : (site article : ℕ) → Makes page run (Figure site article) (counted_figure page run site article) []
-  flags : (site peer article : ℕ) (a : Reply) → Makes page run (OpenItem site peer article) a []
+  moves : (site article slot : ℕ) (amount : ℤ) (t : Ticket) (time : ℕ) (after : List ℕ) (n : ℕ × ℕ) → Makes page run d (Move site article amount slot) (Ok (Answers.Time time)) (at site (Commits t blank (Ok n) after) ∷ (at site (Writes t article 1 amount (Ok time)) ∷ (at site (Opens (Ok t)) ∷ [])))
+  commit_refused : (site article slot : ℕ) (amount : ℤ) (t : Ticket) (time : ℕ) (e : TableFault) → Makes page run d (Move site article amount slot) (refuse (shown e)) (at site (Abandons t (Ok tt)) ∷ (at site (Commits t blank (Err (e, t)) blank) ∷ (at site (Writes t article 1 amount (Ok time)) ∷ (at site (Opens (Ok t)) ∷ []))))
+  write_refused : (site article slot : ℕ) (amount : ℤ) (t : Ticket) (e : TableFault) → Makes page run d (Move site article amount slot) (refuse (shown e)) (at site (Abandons t (Ok tt)) ∷ (at site (Writes t article 1 amount (Err e)) ∷ (at site (Opens (Ok t)) ∷ [])))
+  open_refused : (site article slot : ℕ) (amount : ℤ) (e : TableFault) → Makes page run d (Move site article amount slot) (refuse (shown e)) (at site (Opens (Err e)) ∷ [])
+  -- O, into the 1,200 bytes that a message is written into
+  offers : (site peer article slot : ℕ) (after : List ℕ) (r : Result ℕ TableFault) → Makes page run d (Offer site peer article slot) (measured r) (at site (Offers peer article blank r after) ∷ [])
+  -- T, of just the bytes that the slot holds
+  takes : (site slot : ℕ) (r : Result ℕ TableFault) → Makes page run d (Take site slot) (newly r) (at site (Takes (slice_index_or d.slots slot []) r) ∷ [])
+  -- F, as the run counts, and P, as the site's table shows: they change no table
+  figures : (site article : ℕ) → Makes page run d (Figure site article) (counted_figure page run site article) []
+  flags : (site peer article : ℕ) → Makes page run d (OpenItem site peer article) (flagged (table_at d site) peer article) []
 
--- a line makes these calls and prints this
-abbrev pub PlaysCommand : Page → List Line → Option Command → List Line → List ℕ → Type 0
-PlaysCommand page run None calls bytes = (calls ≡ []) × (bytes ≡ printed 63 (Err 18))
-PlaysCommand page run (Some c) calls bytes = (a : Reply) × Makes page run c a calls × (bytes ≡ printed (letter c) a)
+abbrev pub MakesLine : Page → List Line → DeskView → Option Command → List Line → List ℕ → Type 0
+MakesLine page run d None calls bytes = (calls ≡ []) × (bytes ≡ printed 63 (Err 18))
+MakesLine page run d (Some c) calls bytes = (a : Reply) × Makes page run d c a calls × (bytes ≡ printed (letter c) a)
 
-abbrev pub Plays : Page → List Line → List ℕ → List Line → List ℕ → Type 0
-Plays page run line calls bytes = PlaysCommand page run (command line) calls bytes
+-- a line does to the desk what its letter does, makes these calls and prints this, and the desk that it leaves stands at
+-- the end of the longer run
+abbrev pub Plays : Page → List Line → DeskView → List ℕ → List Line → DeskView → List ℕ → Type 0
+Plays page run d line calls after bytes =
+    Runs d line after bytes × MakesLine page run d (command line) calls bytes × AfterRun page (calls ++ run) after
 
--- one line after another: the run that they lead to, and all that they print
-abbrev pub PlaysAll : Page → List Line → List (List ℕ) → List Line → List ℕ → Type 0
-PlaysAll page run [] later bytes = (later ≡ run) × (bytes ≡ [])
-PlaysAll page run (line ∷ lines) later bytes =
-    (calls : List Line) × (sheet : List ℕ) × (rest : List ℕ) × Plays page run line calls sheet × PlaysAll page (calls ++ run) lines later rest × (bytes ≡ sheet ++ rest)
+-- one line after another: the run and the desk that they lead to, and all that they print
+abbrev pub PlaysAll : Page → List Line → DeskView → List (List ℕ) → List Line → DeskView → List ℕ → Type 0
+PlaysAll page run d [] later after bytes = (later ≡ run) × (after ≡ d) × (bytes ≡ [])
+PlaysAll page run d (line ∷ lines) later after bytes =
+    (calls : List Line) × (between : DeskView) × (sheet : List ℕ) × (rest : List ℕ) × Plays page run d line calls between sheet × PlaysAll page (calls ++ run) between lines later after rest × (bytes ≡ sheet ++ rest)
 
 -- EVERY SCRIPT
 
--- the desk stands at the end of the longer run, and what is printed is what the run says
-abbrev pub Tallied : Page → List Line → List ℕ → List ℕ → Result Unit AllocError → DeskView → List ℕ → Type 0
-Tallied page run input out (Ok _) after grown =
-    (later : List Line) × (sheet : List ℕ) × PlaysAll page run (script input) later sheet × AfterRun page later after × (grown ≡ out ++ sheet)
-Tallied page run input out (Err _) after grown =
-    (done : List (List ℕ)) × (line : List ℕ) × (rest : List (List ℕ)) × (script input ≡ done ++ (line ∷ rest)) × (later : List Line) × (sheet : List ℕ) × PlaysAll page run done later sheet × (calls : List Line) × (lost : List ℕ) × Plays page later line calls lost × AfterRun page (calls ++ later) after × (grown ≡ out ++ sheet)
+-- all lines are played and printed; or some are, and one more is played, for whose bytes there is no memory
+abbrev pub Tallied : Page → List Line → DeskView → List ℕ → List ℕ → Result Unit AllocError → DeskView → List ℕ → Type 0
+Tallied page run d input out (Ok _) after grown =
+    (later : List Line) × (sheet : List ℕ) × PlaysAll page run d (script input) later after sheet × AfterRun page later after × (grown ≡ out ++ sheet)
+Tallied page run d input out (Err _) after grown =
+    (done : List (List ℕ)) × (line : List ℕ) × (rest : List (List ℕ)) × (script input ≡ done ++ (line ∷ rest)) × (later : List Line) × (between : DeskView) × (sheet : List ℕ) × PlaysAll page run d done later between sheet × (calls : List Line) × (lost : List ℕ) × Plays page later between line calls after lost × (grown ≡ out ++ sheet)
 
 -- a new desk stands at the end of a run of no lines
 abbrev pub NewStands : DeskView → Type 0
@@ -92,8 +96,10 @@ NewStands d = (page : Page) × AfterRun page [] d
 
 -- wherever the desk stood before the line
 abbrev pub LineStands : DeskView → List ℕ → DeskView → List ℕ → Type 0
-LineStands d line after bytes = (page : Page) (run : List Line) → AfterRun page run d → (calls : List Line) × Plays page run line calls bytes × AfterRun page (calls ++ run) after
+LineStands d line after bytes =
+    (page : Page) (run : List Line) → AfterRun page run d → (calls : List Line) × Plays page run d line calls after bytes
 
 -- wherever it stood before the script
 abbrev pub ScriptStands : DeskView → List ℕ → List ℕ → Result Unit AllocError → DeskView → List ℕ → Type 0
-ScriptStands d input out r after grown = (page : Page) (run : List Line) → AfterRun page run d → Tallied page run input out r after grown
+ScriptStands d input out r after grown =
+    (page : Page) (run : List Line) → AfterRun page run d → Tallied page run d input out r after grown
