@@ -1,9 +1,9 @@
 -- A run of the desk's tables goes further by a call at one site, and the slots keep what its lines wrote.
-use Rattle.std.proofs.Common.{◌≡◌, ℕ, zero, suc, ◌<◌, List, [], ◌∷◌, ◌++◌, map, length, get_or, set, sym, refl, subst, inl, inr, ⊎_elim, arith}
+use Rattle.std.proofs.Common.{◌≡◌, ℕ, zero, suc, ◌<◌, Bool, false, List, [], ◌∷◌, ◌++◌, map, length, get_or, set, sym, refl, ap, ◌∙◌, subst, inl, inr, ⊎_elim, arith}
 use Rattle.std.specs.List.{ContainsAt as Has, AllByRecursion}
 use Rattle.std.proofs.ByRecursion.{All-get_or, All-set, All-weaker}
 use Rattle.std.proofs.lemmas.List.{get_or_past}
-use Rattle.std.proofs.lemmas.Bool.{cases_lt}
+use Rattle.std.proofs.lemmas.Bool.{cases_eq, cases_lt}
 use Rattle.action.proofs.Members.{has_first, has_later}
 use Rattle.kind.specs.Meanings.{on_hand}
 use Rattle.table.specs.View.{View}
@@ -85,12 +85,21 @@ module _ (page : Page) (run : List Line) (d : DeskView) (after_run : AfterRun pa
   pub slots_kept : (calls : List Line) (slot : ℕ) (bytes : List ℕ) → Kept (calls ++ run) bytes → AllByRecursion (Kept (calls ++ run)) (set d.slots slot bytes)
   slots_kept calls slot bytes kept = All-set (Kept (calls ++ run)) d.slots slot bytes kept (slots_stay calls)
 
-  -- a site's table has gone further
-  pub stands_further : (calls : List Line) (site : ℕ) (w : View) (slots : List (List ℕ)) → Ran on_hand page (calls ++ run) (table_at (with_table d site w)) → AllByRecursion (Kept (calls ++ run)) slots → AfterRun page (calls ++ run) (with_slots (with_table d site w) slots)
-  stands_further calls site w slots ran kept = record {
+  still_closed : (site : ℕ) → site < 3 → (w : View) (slots : List (List ℕ)) → w.is_open ≡ false → (s : ℕ) → s < 3 → (table_at (with_slots (with_table d site w) slots) s).is_open ≡ false
+  still_closed site acts w slots shut s inside =
+      let here : View → Bool = λ u. u.is_open in
+      ap here (sym (beside_slots (with_table d site w) slots s)) ∙ ⊎_elim
+      (λ same. subst (λ (n : ℕ). here (table_at (with_table d site w) n) ≡ false) (sym same) (ap here (at_site d site w) ∙ shut))
+      (λ ne. ap here (elsewhere d site (table_at d site) w acts s inside ne ∙ ap (λ (e : DeskView). table_at e s) (sym (with_its_own d site))) ∙ after_run.closed s inside)
+      (cases_eq s site)
+
+  -- a site's table has gone further, and has no open transaction
+  pub stands_further : (calls : List Line) (site : ℕ) → site < 3 → (w : View) (slots : List (List ℕ)) → Ran on_hand page (calls ++ run) (table_at (with_table d site w)) → AllByRecursion (Kept (calls ++ run)) slots → w.is_open ≡ false → AfterRun page (calls ++ run) (with_slots (with_table d site w) slots)
+  stands_further calls site acts w slots ran kept shut = record {
     group_is = after_run.group_is;
     sites_are = after_run.sites_are;
     articles_are = after_run.articles_are;
     ran = subst (Ran on_hand page (calls ++ run)) (λ i s. beside_slots (with_table d site w) slots s i) ran;
+    closed = λ s inside. still_closed site acts w slots shut s inside;
     slots = kept;
   }

@@ -1,8 +1,8 @@
 -- The calls that the commands make which write into a slot or take from one, and the run that they lead to.
-use Rattle.std.proofs.Common.{◌≡◌, ℕ, ◌<◌, true, List, [], ◌∷◌, ◌++◌, length, ℤ, Some, None, Ok, Err, Result, sym, refl, ap, ◌∙◌, ⊎_elim, arith, w32, SFits}
+use Rattle.std.proofs.Common.{◌≡◌, ℕ, ◌<◌, true, false, not, List, [], ◌∷◌, ◌++◌, length, ℤ, Some, None, Ok, Err, OnErr, Result, sym, refl, ap, ◌∙◌, subst, ⊎_elim, arith, w32, SFits}
 use Rattle.std.proofs.lemmas.Bool.{and_from, cond-true, eq-eqb}
 use Rattle.action.specs.declared.orders.Action.{Action}
-use Rattle.action.specs.Lawful.{by_table}
+use Rattle.action.specs.Lawful.{by_table, unless}
 use Rattle.kind.specs.Meanings.{on_hand}
 use Rattle.message.specs.Buffer.{overwritten}
 use Rattle.message.specs.Format.{Message, format}
@@ -19,14 +19,14 @@ use Rattle.runs.specs.Runs.{Honest, Page, Ran}
 use Rattle.script.specs.declared.answers.Answer.TheVariants.{Time, Length}
 use Rattle.script.specs.declared.commands.Command.{Command}
 use Rattle.script.specs.declared.commands.Command.TheVariants.{Move, Offer}
-use Rattle.script.specs.Acts.{Outcome, moved, moved_opened, moved_written, offered, refused_at}
+use Rattle.script.specs.Acts.{Outcome, decided, moved, moved_opened, moved_written, newly, offered, refused_at}
 use Rattle.script.specs.Desk.{DeskView, table_at, with_table}
 use Rattle.script.specs.Slots.{blank}
 use Rattle.script.specs.Standing.{Kept, Makes, at}
-use Rattle.script.specs.Standing.Makes.{moves, commit_refused, write_refused, open_refused, offers}
+use Rattle.script.specs.Standing.Makes.{moves, commit_refused, write_refused, offers}
 use Rattle.script.proofs.Further.{as_it_is, further, kept_after, kept_now}
 use Rattle.script.proofs.Held.{held_written}
-use Rattle.script.proofs.Refused.{by_decision, commit_faults, offer_faults, open_faults, write_faults}
+use Rattle.script.proofs.Refused.{by_decision, commit_faults, offer_faults, write_faults}
 
 -- a table's open transaction is abandoned by its own ticket
 own_ticket : (v : View) (pending : List Action) → abandon_refusal on_hand (with_transaction true pending v) (ticket on_hand v) ≡ None
@@ -41,9 +41,21 @@ own_ticket v pending =
 some_bytes : (m : Message) → [] ≡ format m → ⊥
 some_bytes m e = omega (arith, ap length e)
 
-module _ (page : Page) (three : page.sites ≡ 3) (run : List Line) (d : DeskView) (ran : Ran on_hand page run (table_at d)) (site : ℕ) (acts : site < 3) where
+module _ (page : Page) (three : page.sites ≡ 3) (run : List Line) (d : DeskView) (ran : Ran on_hand page run (table_at d)) (site : ℕ) (acts : site < 3) (shut : (table_at d site).is_open ≡ false) (none : (table_at d site).pending ≡ []) where
   abbrev v : View
   v = table_at d site
+
+  -- a table without a transaction is as it was after one that is abandoned
+  as_before : with_transaction false [] v ≡ v
+  as_before = λ i. record {
+    setup = v.setup;
+    clock = v.clock;
+    is_open = sym shut i;
+    pending = sym none i;
+    rows = v.rows;
+    history = v.history;
+    capacity = v.capacity;
+  }
 
   start : Ran on_hand page run (table_at (with_table d site v))
   start = as_it_is page run d site ran
@@ -51,9 +63,10 @@ module _ (page : Page) (three : page.sites ≡ 3) (run : List Line) (d : DeskVie
   on : (before : List Line) (call : Call) (u w : View) → Ran on_hand page before (table_at (with_table d site u)) → Does on_hand u call w → Honest before call → Ran on_hand page (at site call ∷ before) (table_at (with_table d site w))
   on = further page three d site acts
 
-  -- what a command that writes into a slot makes, and what it leaves
-  abbrev pub Goes : Command → Outcome → Type 0
-  Goes c o = (calls : List Line) × Makes page run d c o.answer calls × Ran on_hand page (calls ++ run) (table_at (with_table d site o.table)) × Kept (calls ++ run) o.slot
+  -- what a command that writes into a slot makes, and what it leaves, of what the slot held too
+  abbrev pub Goes : Command → List ℕ → Outcome → Type 0
+  Goes c held o =
+      (calls : List Line) × Makes page run d c o.answer calls × Ran on_hand page (calls ++ run) (table_at (with_table d site o.table)) × Kept (calls ++ run) o.slot × (o.table.is_open ≡ false) × OnErr o.answer ((o.table ≡ v) × (o.slot ≡ held))
 
   -- M
 
@@ -76,11 +89,11 @@ module _ (page : Page) (three : page.sites ≡ 3) (run : List Line) (d : DeskVie
     abbrev writes : Result ℕ TableFault → Call
     writes r = Writes t article 1 amount r
 
-    module _ (can-open : open_refusal v ≡ None) where
+    module _ (can_begin : open_refusal v ≡ None) where
       open_ran : Ran on_hand page (at site opens ∷ run) (table_at (with_table d site u))
-      open_ran = on run opens v u start (can-open, refl, refl) tt
+      open_ran = on run opens v u start (can_begin, refl, refl) tt
 
-      module _ (can_write_lem : write_refusal on_hand u t article 1 amount ≡ None) where
+      module _ (can_write : write_refusal on_hand u t article 1 amount ≡ None) where
         abbrev message : List ℕ
         message = fitting (transaction_bytes on_hand x) blank
 
@@ -91,41 +104,45 @@ module _ (page : Page) (three : page.sites ≡ 3) (run : List Line) (d : DeskVie
         so_far = at site (writes (Ok (next_time u))) ∷ (at site opens ∷ run)
 
         write_ran : Ran on_hand page so_far (table_at (with_table d site x))
-        write_ran = on (at site opens ∷ run) (writes (Ok (next_time u))) u x open_ran (omega arith, fits, (can_write_lem, refl, refl)) tt
+        write_ran = on (at site opens ∷ run) (writes (Ok (next_time u))) u x open_ran (omega arith, fits, (can_write, refl, refl)) tt
 
-        commit_granted_goes : commit_refusal on_hand x t ≡ None → Goes c (record { table = committed on_hand x; slot = message; answer = Ok (Time (next_time u)) })
-        commit_granted_goes can-commit = (
+        commit_granted_goes : commit_refusal on_hand x t ≡ None → Goes c held (record { table = committed on_hand x; slot = message; answer = Ok (Time (next_time u)) })
+        commit_granted_goes can_commit = (
           at site commits ∷ (at site (writes (Ok (next_time u))) ∷ (at site opens ∷ [])),
           moves site article slot amount t (next_time u) (overwritten blank 0 message) (length x.pending, length message),
-          on so_far commits x (committed on_hand x) write_ran (can-commit, refl, refl, refl, refl) tt,
+          on so_far commits x (committed on_hand x) write_ran (can_commit, refl, refl, refl, refl) tt,
           kept_now (at site commits) so_far message (held_written blank message (length message) refl),
+          refl,
+          tt,
         )
 
-        commit_refused_goes : (e : TableFault) → commit_refusal on_hand x t ≡ Some (shown e) → Goes c (refused_at (abandoned x) held (shown e))
+        commit_refused_goes : (e : TableFault) → commit_refusal on_hand x t ≡ Some (shown e) → Goes c held (refused_at (abandoned x) held (shown e))
         commit_refused_goes e is =
             let call : Call = Commits t blank (Err (e, t)) blank in
             let calls : List Line = at site (Abandons t (Ok tt)) ∷ (at site call ∷ (at site (writes (Ok (next_time u))) ∷ (at site opens ∷ []))) in
             let refused = on so_far call x x write_ran (is, refl, refl, refl) tt in
-            (calls, commit_refused site article slot amount t (next_time u) e, on (at site call ∷ so_far) (Abandons t (Ok tt)) x (abandoned x) refused (own_ticket v x.pending, refl) tt, kept_after calls run held kept)
+            (calls, commit_refused site article slot amount t (next_time u) e, on (at site call ∷ so_far) (Abandons t (Ok tt)) x (abandoned x) refused (own_ticket v x.pending, refl) tt, kept_after calls run held kept, refl, (as_before, refl))
 
-        write_granted_goes : Goes c (moved_written v x (next_time u) held)
+        write_granted_goes : Goes c held (moved_written v x (next_time u) held)
         write_granted_goes =
-            by_decision (Goes c) (commit_refusal on_hand x t) (refused_at (abandoned x) held) (record { table = committed on_hand x; slot = message; answer = Ok (Time (next_time u)) }) (commit_faults x t) commit_refused_goes commit_granted_goes
+            by_decision (Goes c held) (commit_refusal on_hand x t) (refused_at (abandoned x) held) (record { table = committed on_hand x; slot = message; answer = Ok (Time (next_time u)) }) (commit_faults x t) commit_refused_goes commit_granted_goes
 
-      write_refused_goes : (e : TableFault) → write_refusal on_hand u t article 1 amount ≡ Some (shown e) → Goes c (refused_at (abandoned u) held (shown e))
+      write_refused_goes : (e : TableFault) → write_refusal on_hand u t article 1 amount ≡ Some (shown e) → Goes c held (refused_at (abandoned u) held (shown e))
       write_refused_goes e is =
           let calls : List Line = at site (Abandons t (Ok tt)) ∷ (at site (writes (Err e)) ∷ (at site opens ∷ [])) in
           let refused = on (at site opens ∷ run) (writes (Err e)) u u open_ran (omega arith, fits, (is, refl)) tt in
-          (calls, write_refused site article slot amount t e, on (at site (writes (Err e)) ∷ (at site opens ∷ run)) (Abandons t (Ok tt)) u (abandoned u) refused (own_ticket v v.pending, refl) tt, kept_after calls run held kept)
+          (calls, write_refused site article slot amount t e, on (at site (writes (Err e)) ∷ (at site opens ∷ run)) (Abandons t (Ok tt)) u (abandoned u) refused (own_ticket v v.pending, refl) tt, kept_after calls run held kept, refl, (as_before, refl))
 
-      open_granted_goes : Goes c (moved_opened v u article amount held)
-      open_granted_goes = by_decision (Goes c) (write_refusal on_hand u t article 1 amount) (refused_at (abandoned u) held) (moved_written v x (next_time u) held) (write_faults u t article 1 amount) write_refused_goes write_granted_goes
+      open_granted_goes : Goes c held (moved_opened v u article amount held)
+      open_granted_goes = by_decision (Goes c held) (write_refusal on_hand u t article 1 amount) (refused_at (abandoned u) held) (moved_written v x (next_time u) held) (write_faults u t article 1 amount) write_refused_goes write_granted_goes
 
-    open_refused_goes : (e : TableFault) → open_refusal v ≡ Some (shown e) → Goes c (refused_at v held (shown e))
-    open_refused_goes e is = (at site (Opens (Err e)) ∷ [], open_refused site article slot amount e, on run (Opens (Err e)) v v start (is, refl) tt, kept_after (at site (Opens (Err e)) ∷ []) run held kept)
+    -- no transaction is open, so one can be opened
+    can_open : open_refusal v ≡ None
+    can_open = ap (λ b. unless (not b) (by_table 2 0) None) shut
 
-    pub move_goes : Goes c (moved v article amount held)
-    move_goes = by_decision (Goes c) (open_refusal v) (refused_at v held) (moved_opened v u article amount held) (open_faults v) open_refused_goes open_granted_goes
+    pub move_goes : Goes c held (moved v article amount held)
+    move_goes =
+        subst (Goes c held) (sym (ap (λ o. decided o (refused_at v held) (moved_opened v u article amount held)) can_open)) (open_granted_goes can_open)
 
   -- O
 
@@ -136,18 +153,18 @@ module _ (page : Page) (three : page.sites ≡ 3) (run : List Line) (d : DeskVie
     abbrev bytes : List ℕ
     bytes = offer_bytes on_hand v peer article
 
-    offer_granted_goes : offer_refusal on_hand v peer article blank ≡ None → Goes offer (record { table = v; slot = bytes; answer = Ok (Length (length bytes)) })
-    offer_granted_goes can-offer =
+    offer_granted_goes : offer_refusal on_hand v peer article blank ≡ None → Goes offer held (record { table = v; slot = bytes; answer = Ok (Length (length bytes)) })
+    offer_granted_goes can_offer =
         let call : Call = Offers peer article blank (Ok (length bytes)) (overwritten blank 0 bytes) in
-        (at site call ∷ [], offers site peer article slot (overwritten blank 0 bytes) (Ok (length bytes)), on run call v v start ((can-offer, refl, refl), refl) tt, kept_now (at site call) run bytes (held_written blank bytes (length bytes) refl))
+        (at site call ∷ [], offers site peer article slot (overwritten blank 0 bytes) (Ok (length bytes)), on run call v v start ((can_offer, refl, refl), refl) tt, kept_now (at site call) run bytes (held_written blank bytes (length bytes) refl), shut, tt)
 
-    offer_refused_goes : (e : TableFault) → offer_refusal on_hand v peer article blank ≡ Some (shown e) → Goes offer (refused_at v held (shown e))
+    offer_refused_goes : (e : TableFault) → offer_refusal on_hand v peer article blank ≡ Some (shown e) → Goes offer held (refused_at v held (shown e))
     offer_refused_goes e is =
         let call : Call = Offers peer article blank (Err e) blank in
-        (at site call ∷ [], offers site peer article slot blank (Err e), on run call v v start ((is, refl), refl) tt, kept_after (at site call ∷ []) run held kept)
+        (at site call ∷ [], offers site peer article slot blank (Err e), on run call v v start ((is, refl), refl) tt, kept_after (at site call ∷ []) run held kept, shut, (refl, refl))
 
-    pub offer_goes : Goes offer (offered v peer article held)
-    offer_goes = by_decision (Goes offer) (offer_refusal on_hand v peer article blank) (refused_at v held) (record { table = v; slot = bytes; answer = Ok (Length (length bytes)) }) (offer_faults v peer article blank) offer_refused_goes offer_granted_goes
+    pub offer_goes : Goes offer held (offered v peer article held)
+    offer_goes = by_decision (Goes offer held) (offer_refusal on_hand v peer article blank) (refused_at v held) (record { table = v; slot = bytes; answer = Ok (Length (length bytes)) }) (offer_faults v peer article blank) offer_refused_goes offer_granted_goes
 
   -- T
 
@@ -158,3 +175,11 @@ module _ (page : Page) (three : page.sites ≡ 3) (run : List Line) (d : DeskVie
 
   pub take_ran : (held : List ℕ) (r : Result ℕ TableFault) (w : View) → Kept run held → Took on_hand v held r w → Ran on_hand page (at site (Takes held r) ∷ run) (table_at (with_table d site w))
   take_ran held r w kept took = on run (Takes held r) v w start took (honest held r w kept took)
+
+  pub take_shut : (held : List ℕ) (r : Result ℕ TableFault) (w : View) → Took on_hand v held r w → w.is_open ≡ false
+  take_shut held (Ok n) w took = ap (λ (u : View). u.is_open) took.1.5 ∙ shut
+  take_shut held (Err e) w took = ap (λ (u : View). u.is_open) took.1 ∙ shut
+
+  pub take_stays : (held : List ℕ) (r : Result ℕ TableFault) (w : View) → Took on_hand v held r w → OnErr (newly r) (w ≡ v)
+  take_stays held (Ok n) w took = tt
+  take_stays held (Err e) w took = took.1

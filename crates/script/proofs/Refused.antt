@@ -1,16 +1,16 @@
 -- Every refusal of a call of the desk is a fault's, and what a call decides goes by them.
-use Rattle.std.proofs.Common.{◌≡◌, ℕ, ◌+◌, Bool, not, ltb, leb, List, [], ◌∷◌, length, ℤ, IfSome, Some, None, Option, sym, refl, ap, subst}
+use Rattle.std.proofs.Common.{◌≡◌, ℕ, ◌+◌, Bool, ltb, leb, List, [], ◌∷◌, length, ℤ, IfSome, Some, None, Option, sym, refl, ap, subst}
 use Rattle.std.proofs.lemmas.Bool.{cond_both}
 use Rattle.action.specs.declared.refusals.Refusal.{Refusal}
 use Rattle.action.specs.Lawful.{unless}
 use Rattle.history.specs.declared.faults.HistoryFault.TheVariants.{Full}
 use Rattle.kind.specs.Meanings.{on_hand, on_hand_knows}
 use Rattle.table.specs.declared.faults.TableFault.{TableFault}
-use Rattle.table.specs.declared.faults.TableFault.TheVariants.{AlreadyOpen, NotItsTicket, NoArticle, NoSite, UnknownPair, TooManyWrites, TooLate, Short, InHistory}
+use Rattle.table.specs.declared.faults.TableFault.TheVariants.{NotItsTicket, NoArticle, NoSite, UnknownPair, TooManyWrites, TooLate, Short, InHistory}
 use Rattle.table.specs.declared.tickets.Ticket.{Ticket}
 use Rattle.table.specs.Faults.{shown}
 use Rattle.table.specs.Offers.{offer_bytes, offer_refusal}
-use Rattle.table.specs.Transactions.{commit_refusal, holds, next_time, open_refusal, write_refusal}
+use Rattle.table.specs.Transactions.{commit_refusal, holds, next_time, write_refusal}
 use Rattle.table.specs.View.{View}
 use Rattle.script.specs.Acts.{decided}
 
@@ -25,9 +25,6 @@ checks (c ∷ cs) = unless c.0 (shown c.1) (checks cs)
 faulted : (cs : List (Bool × TableFault)) → IfSome (checks cs) Fault
 faulted [] = tt
 faulted (c ∷ cs) = cond_both c.0 (checks cs) (Some (shown c.1)) (λ o. IfSome o Fault) (λ _. faulted cs) (λ _. (c.1, refl))
-
-pub open_faults : (v : View) → IfSome (open_refusal v) Fault
-open_faults v = faulted ((not v.is_open, AlreadyOpen) ∷ [])
 
 pub write_faults : (v : View) (t : Ticket) (article operation : ℕ) (amount : ℤ) → IfSome (write_refusal on_hand v t article operation amount) Fault
 write_faults v t article operation amount =

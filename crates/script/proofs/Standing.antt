@@ -1,9 +1,11 @@
 -- A desk that stands at the end of a run stands at the end of a longer one after each command, line and script;
 -- and a new desk stands at the end of a run of no lines.
-use Rattle.std.proofs.Common.{◌≡◌, ℕ, zero, suc, ◌<◌, Bool, true, false, cond, ltb, List, [], ◌∷◌, ◌++◌, get_or, set, replicate, ℤ, IfSome, Some, None, Ok, Err, Option, Result, sym, refl, ap, ◌∙◌, subst, arith, w64, SFits, rules}
+use Rattle.std.proofs.Common.{◌≡◌, ℕ, zero, suc, ◌<◌, Bool, true, false, cond, ltb, List, [], ◌∷◌, ◌++◌, get_or, set, replicate, ℤ, IfSome, Some, None, Ok, Err, OnErr, Option, Result, sym, refl, ap, ◌∙◌, subst, arith, w64, SFits, rules}
 use Rattle.std.specs.List.{AllByRecursion}
 use Rattle.std.specs.declared.alloc.AllocError.{AllocError}
 use Rattle.std.proofs.lemmas.Bool.{ltb-true}
+use Rattle.std.proofs.lemmas.List.{set-get_or}
+use Rattle.std.proofs.lemmas.Result.{on_err_weaker}
 use Rattle.action.specs.declared.setups.Setup.{Setup}
 use Rattle.action.specs.Lawful.{by_table, unless}
 use Rattle.kind.specs.Meanings.{on_hand}
@@ -19,14 +21,14 @@ use Rattle.runs.proofs.Standing.{Standing}
 use Rattle.script.specs.declared.answers.Answer.TheVariants as Answers
 use Rattle.script.specs.declared.commands.Command.{Command}
 use Rattle.script.specs.declared.commands.Command.TheVariants.{Move, Offer, Take, Figure, OpenItem}
-use Rattle.script.specs.Acts.{Outcome, Reply, decided, figured, flagged, refuse}
-use Rattle.script.specs.Desk.{Acts, DeskView, FreshDesk, FreshSite, Runs, RunsCommand, SiteTurn, settled, table_at, with_slots, with_table}
+use Rattle.script.specs.Acts.{Outcome, Reply, decided, figured, flagged, newly, refuse}
+use Rattle.script.specs.Desk.{Acts, ActsAt, DeskView, FreshDesk, FreshSite, Runs, RunsCommand, SiteTurn, settled, table_at, with_slots, with_table}
 use Rattle.script.specs.Lines.{command}
 use Rattle.script.specs.Scripts.{RunsAll, Scripted}
 use Rattle.script.specs.Standing.{AfterRun, Kept, LineStands, Makes, MakesLine, NewStands, PlaysAll, ScriptStands, at, counted_figure}
 use Rattle.script.specs.Standing.Makes.{takes, figures, flags}
 use Rattle.script.proofs.Further.{kept_at, slots_kept, slots_stay, stands_further}
-use Rattle.script.proofs.Made.{Goes, move_goes, offer_goes, take_ran}
+use Rattle.script.proofs.Made.{Goes, move_goes, offer_goes, take_ran, take_shut, take_stays}
 use Rattle.script.proofs.Ranges.{Ranged, command_ranged}
 
 -- THE LAWS AT ON HAND
@@ -50,6 +52,10 @@ as_it_was d zero = refl
 as_it_was d (suc zero) = refl
 as_it_was d (suc (suc n)) = refl
 
+on_err : {X : Type 0} (a : Reply) → X → OnErr a X
+on_err (Ok b) x = tt
+on_err (Err n) x = x
+
 -- a figure, or refused by 4
 figure_or_four : (known : Bool) (z y : ℤ) → (known ≡ true → z ≡ y) → decided (unless known (by_table 4 0) None) refuse (Ok (Answers.Figure z)) ≡ cond known (Ok (Answers.Figure y)) (Err 4)
 figure_or_four true z y same = ap (λ f. Ok (Answers.Figure f)) (same refl)
@@ -58,7 +64,7 @@ figure_or_four false z y same = refl
 module _ (page : Page) (run : List Line) (d : DeskView) (stood : AfterRun page run d) where
   -- after a command: the calls that it made, and the desk at the end of the longer run
   abbrev Goes_on : Command → Reply → DeskView → Type 0
-  Goes_on c a after = (calls : List Line) × Makes page run d c a calls × AfterRun page (calls ++ run) after
+  Goes_on c a after = (calls : List Line) × Makes page run d c a calls × OnErr a (after ≡ d) × AfterRun page (calls ++ run) after
 
   module _ (site : ℕ) (acts : site < 3) where
     -- the desk with the site's table and the slots that are there now
@@ -69,41 +75,65 @@ module _ (page : Page) (run : List Line) (d : DeskView) (stood : AfterRun page r
     abbrev turn : DeskView → Reply → SiteTurn
     turn after a = record { table = table_at after site; slots = after.slots; answer = a }
 
+    inside : site < page.sites
+    inside = omega (arith, stood.sites_are)
+
+    shut : (table_at d site).is_open ≡ false
+    shut = stood.closed site acts
+
+    none : (table_at d site).pending ≡ []
+    none = ((on_hand_stands page run (table_at d) stood.ran).sites site inside).sound.closed shut
+
     -- a command that writes into a slot
-    writes : (c : Command) (slot : ℕ) (o : Outcome) (a : Reply) (after : DeskView) → Goes page stood.sites_are run d stood.ran site acts c o → turn after a ≡ settled d.slots slot o → after ≡ now after → Goes_on c a after
-    writes c slot o a after goes is others =
-        let calls = goes.0 in
+    writes : (c : Command) (slot : ℕ) (o : Outcome) (a : Reply) (after : DeskView) → Goes page stood.sites_are run d stood.ran site acts shut none c (get_or d.slots slot []) o → turn after a ≡ settled d.slots slot o → after ≡ now after → Goes_on c a after
+    writes c slot o a after (calls, makes, ran, kept, closed, stays) is others =
         let left : after ≡ with_slots (with_table d site o.table) (set d.slots slot o.slot) = others ∙ (λ i. with_slots (with_table d site (is i).table) (is i).slots) in
-        (calls, subst (λ b. Makes page run d c b calls) (sym (λ i. (is i).answer)) goes.1, subst (AfterRun page (calls ++ run)) (sym left) (stands_further page run d stood calls site o.table (set d.slots slot o.slot) goes.2 (slots_kept page run d stood calls slot o.slot goes.3)))
+        let answer : o.answer ≡ a = sym (λ i. (is i).answer) in
+        let as_before : (o.table ≡ table_at d site) × (o.slot ≡ get_or d.slots slot []) → after ≡ d =
+        λ same. left ∙ (λ i. with_slots (with_table d site (same.0 i)) (set d.slots slot (same.1 i))) ∙ ap (with_slots (with_table d site (table_at d site))) (set-get_or d.slots slot []) ∙ sym (as_it_was d site)
+        in (
+          calls,
+          subst (λ b. Makes page run d c b calls) answer makes,
+          subst (λ b. OnErr b (after ≡ d)) answer (on_err_weaker o.answer as_before stays),
+          subst (AfterRun page (calls ++ run)) (sym left) (stands_further page run d stood calls site acts o.table (set d.slots slot o.slot) ran (slots_kept page run d stood calls slot o.slot kept) closed),
+        )
 
     -- a command that changes nothing
     leaves : (c : Command) (a b : Reply) (after : DeskView) → Makes page run d c b [] → turn after a ≡ turn d b → after ≡ now after → Goes_on c a after
     leaves c a b after made is others =
         let same : after ≡ d = others ∙ (λ i. with_slots (with_table d site (is i).table) (is i).slots) ∙ sym (as_it_was d site) in
-        ([], subst (λ r. Makes page run d c r []) (sym (λ i. (is i).answer)) made, subst (AfterRun page run) (sym same) stood)
+        ([], subst (λ r. Makes page run d c r []) (sym (λ i. (is i).answer)) made, on_err a same, subst (AfterRun page run) (sym same) stood)
+
+    takes_on : (slot : ℕ) (a : Reply) (after : DeskView) → ActsAt (table_at d site) d.slots (Take site slot) (turn after a) → after ≡ now after → Goes_on (Take site slot) a after
+    takes_on slot a after ((r, took, told), stay) others =
+        let bytes = get_or d.slots slot [] in
+        let calls : List Line = at site (Takes bytes r) ∷ [] in
+        let w = table_at after site in
+        let left : after ≡ with_slots (with_table d site w) d.slots = others ∙ ap (with_slots (with_table d site w)) stay in
+        let kept = kept_at run d.slots slot stood.slots in
+        let as_before : w ≡ table_at d site → after ≡ d = λ same. left ∙ ap (λ u. with_slots (with_table d site u) d.slots) same ∙ sym (as_it_was d site) in (
+          calls,
+          subst (λ b. Makes page run d (Take site slot) b calls) (sym told) (takes site slot r),
+          subst (λ b. OnErr b (after ≡ d)) (sym told) (on_err_weaker (newly r) as_before (take_stays page stood.sites_are run d stood.ran site acts shut none bytes r w took)),
+          subst (AfterRun page (calls ++ run)) (sym left) (stands_further page run d stood calls site acts w d.slots (take_ran page stood.sites_are run d stood.ran site acts shut none bytes r w kept took) (slots_stay page run d stood calls) (take_shut page stood.sites_are run d stood.ran site acts shut none bytes r w took)),
+        )
 
     -- the site has four articles, and its figures are those that the run counts
     counts : (article : ℕ) → figured (table_at d site) article ≡ counted_figure page run site article
     counts article =
-        let inside : site < page.sites = omega (arith, stood.sites_are) in
         let four : (table_at d site).setup.articles ≡ 4 = ap (λ (s : Setup). s.articles) ((on_hand_stands page run (table_at d) stood.ran).sites site inside).setup_is ∙ (page.of_page site inside).articles_are ∙ stood.articles_are in
         let law = on_hand_counted page run (table_at d) stood.ran in
         ap (λ n. decided (unless (ltb article n) (by_table 4 0) None) refuse (Ok (Answers.Figure (figure (table_at d site) article)))) four ∙ figure_or_four (ltb article 4) _ _ (λ known. law.figured site article inside (omega (arith, ltb-true article 4 known, stood.articles_are)))
 
   command_goes_on : (c : Command) (a : Reply) (after : DeskView) → Ranged c → Acts d c a after → Goes_on c a after
   command_goes_on (Move site article amount slot) a after ranged is =
+      let acts = ranged.0 in
       let kept = kept_at run d.slots slot stood.slots in
-      writes site ranged.0 (Move site article amount slot) slot _ a after (move_goes page stood.sites_are run d stood.ran site ranged.0 article amount slot ranged.1 (get_or d.slots slot []) kept) is.0 is.1
-  command_goes_on (Offer site peer article slot) a after ranged is =
+      writes site acts (Move site article amount slot) slot _ a after (move_goes page stood.sites_are run d stood.ran site acts (shut site acts) (none site acts) article amount slot ranged.1 (get_or d.slots slot []) kept) is.0 is.1
+  command_goes_on (Offer site peer article slot) a after acts is =
       let kept = kept_at run d.slots slot stood.slots in
-      writes site ranged (Offer site peer article slot) slot _ a after (offer_goes page stood.sites_are run d stood.ran site ranged peer article slot (get_or d.slots slot []) kept) is.0 is.1
-  command_goes_on (Take site slot) a after ranged (((r, took, told), stay), others) =
-      let bytes = get_or d.slots slot [] in
-      let calls : List Line = at site (Takes bytes r) ∷ [] in
-      let w = table_at after site in
-      let left : after ≡ with_slots (with_table d site w) d.slots = others ∙ ap (with_slots (with_table d site w)) stay in
-      let kept = kept_at run d.slots slot stood.slots in
-      (calls, subst (λ b. Makes page run d (Take site slot) b calls) (sym told) (takes site slot r), subst (AfterRun page (calls ++ run)) (sym left) (stands_further page run d stood calls site w d.slots (take_ran page stood.sites_are run d stood.ran site ranged bytes r w kept took) (slots_stay page run d stood calls)))
+      writes site acts (Offer site peer article slot) slot _ a after (offer_goes page stood.sites_are run d stood.ran site acts (shut site acts) (none site acts) peer article slot (get_or d.slots slot []) kept) is.0 is.1
+  command_goes_on (Take site slot) a after ranged is = takes_on site ranged slot a after is.0 is.1
   command_goes_on (Figure site article) a after ranged is =
       leaves site ranged (Figure site article) a (figured (table_at d site) article) after (subst (λ b. Makes page run d (Figure site article) b []) (sym (counts site ranged article)) (figures site article)) is.0 is.1
   command_goes_on (OpenItem site peer article) a after ranged is = leaves site ranged (OpenItem site peer article) a (flagged (table_at d site) peer article) after (flags site peer article) is.0 is.1
@@ -115,11 +145,11 @@ line_stands d line after bytes runs page run stood =
     let goes = by_command (command line) (command_ranged line) runs in
     (goes.0, (runs, goes.1, goes.2))
   where
-    by_command : (o : Option Command) → IfSome o Ranged → RunsCommand d o after bytes → (calls : List Line) × MakesLine page run d o calls bytes × AfterRun page (calls ++ run) after
-    by_command None ranged is = ([], (refl, is.1), subst (AfterRun page run) (sym is.0) stood)
+    by_command : (o : Option Command) → IfSome o Ranged → RunsCommand d o after bytes → (calls : List Line) × MakesLine page run d o calls after bytes × AfterRun page (calls ++ run) after
+    by_command None ranged is = ([], (refl, is.0, is.1), subst (AfterRun page run) (sym is.0) stood)
     by_command (Some c) ranged is =
         let goes = command_goes_on page run d stood c is.0 after ranged is.1 in
-        (goes.0, (is.0, goes.1, is.2), goes.2)
+        (goes.0, (is.0, goes.1, goes.2, is.2), goes.3)
 
 lines_stand : (page : Page) (run : List Line) (d : DeskView) (lines : List (List ℕ)) (after : DeskView) (bytes : List ℕ) → RunsAll d lines after bytes → AfterRun page run d → (later : List Line) × PlaysAll page run d lines later after bytes × AfterRun page later after
 lines_stand page run d [] after bytes is stood = (run, (refl, is.0, is.1), subst (AfterRun page run) (sym is.0) stood)
@@ -166,4 +196,4 @@ new_stands d new =
       few_places = λ s inside. omega arith;
     } in
     let none : AllByRecursion (Kept []) (replicate 10 []) = search rules in
-    (page, record { group_is = refl; sites_are = refl; articles_are = refl; ran = λ s inside. fresh_table d new s; slots = subst (AllByRecursion (Kept [])) (sym new.slots) none })
+    (page, record { group_is = refl; sites_are = refl; articles_are = refl; ran = λ s inside. fresh_table d new s; closed = λ s inside. ap (λ (v : View). v.is_open) (fresh_table d new s); slots = subst (AllByRecursion (Kept [])) (sym new.slots) none })

@@ -1,6 +1,6 @@
 -- A script as part of a run of the three tables: which calls its lines make, and that its figures are those that
 -- the run counts. Assumes nothing.
-use Rattle.std.specs.Prelude.{◌≡◌, ℕ, cond, ◌⊎◌, List, [], ◌∷◌, ◌++◌, map, ℤ, Some, None, Ok, Err, Option, Result, nat_lt, slice_index_or}
+use Rattle.std.specs.Prelude.{◌≡◌, ℕ, ◌<◌, false, cond, ◌⊎◌, List, [], ◌∷◌, ◌++◌, map, ℤ, Some, None, Ok, Err, OnErr, Option, Result, nat_lt, slice_index_or}
 use Rattle.std.specs.List.{ContainsAt as Has, AllByRecursion}
 use Rattle.std.specs.declared.alloc.AllocError.{AllocError}
 use Rattle.kind.specs.Meanings.{on_hand}
@@ -28,12 +28,13 @@ abbrev pub Kept : List Line → List ℕ → Type 0
 Kept run bytes = (bytes ≡ []) ⊎ Has (map (λ line. wrote line.call) run) bytes
 
 -- the desk stands at the end of this run: the lines, the latest first, led from new tables of three sites with four
--- articles to the desk's, and each slot holds nothing or what one of them wrote
+-- articles to the desk's, no transaction is open, and each slot holds nothing or what one of them wrote
 pub record AfterRun (page : Page) (run : List Line) (d : DeskView) : Type 0 where
   pub group_is : page.group ≡ 1
   pub sites_are : page.sites ≡ 3
   pub articles_are : page.articles ≡ 4
   pub ran : Ran on_hand page run (table_at d)
+  pub closed : (site : ℕ) → site < 3 → (table_at d site).is_open ≡ false
   pub slots : AllByRecursion (Kept run) d.slots
 
 -- THE LINES
@@ -52,11 +53,11 @@ measured (Err e) = refuse (shown e)
 
 -- after this run, which led to this desk, a command makes these calls, the latest first, and answers this
 pub data Makes (page : Page) (run : List Line) (d : DeskView) : Command → Reply → List Line → Type 0 where
-  -- M: open, write and commit; where the write or the commit is refused the transaction is abandoned
+  -- M: open, write and commit; the open is granted, and where the write or the commit is refused the transaction is
+  -- abandoned
   moves : (site article slot : ℕ) (amount : ℤ) (t : Ticket) (time : ℕ) (after : List ℕ) (n : ℕ × ℕ) → Makes page run d (Move site article amount slot) (Ok (Answers.Time time)) (at site (Commits t blank (Ok n) after) ∷ (at site (Writes t article 1 amount (Ok time)) ∷ (at site (Opens (Ok t)) ∷ [])))
   commit_refused : (site article slot : ℕ) (amount : ℤ) (t : Ticket) (time : ℕ) (e : TableFault) → Makes page run d (Move site article amount slot) (refuse (shown e)) (at site (Abandons t (Ok tt)) ∷ (at site (Commits t blank (Err (e, t)) blank) ∷ (at site (Writes t article 1 amount (Ok time)) ∷ (at site (Opens (Ok t)) ∷ []))))
   write_refused : (site article slot : ℕ) (amount : ℤ) (t : Ticket) (e : TableFault) → Makes page run d (Move site article amount slot) (refuse (shown e)) (at site (Abandons t (Ok tt)) ∷ (at site (Writes t article 1 amount (Err e)) ∷ (at site (Opens (Ok t)) ∷ [])))
-  open_refused : (site article slot : ℕ) (amount : ℤ) (e : TableFault) → Makes page run d (Move site article amount slot) (refuse (shown e)) (at site (Opens (Err e)) ∷ [])
   -- O, into the 1,200 bytes that a message is written into
   offers : (site peer article slot : ℕ) (after : List ℕ) (r : Result ℕ TableFault) → Makes page run d (Offer site peer article slot) (measured r) (at site (Offers peer article blank r after) ∷ [])
   -- T, of just the bytes that the slot holds
@@ -65,15 +66,17 @@ pub data Makes (page : Page) (run : List Line) (d : DeskView) : Command → Repl
   figures : (site article : ℕ) → Makes page run d (Figure site article) (counted_figure page run site article) []
   flags : (site peer article : ℕ) → Makes page run d (OpenItem site peer article) (flagged (table_at d site) peer article) []
 
-abbrev pub MakesLine : Page → List Line → DeskView → Option Command → List Line → List ℕ → Type 0
-MakesLine page run d None calls bytes = (calls ≡ []) × (bytes ≡ printed 63 (Err 18))
-MakesLine page run d (Some c) calls bytes = (a : Reply) × Makes page run d c a calls × (bytes ≡ printed (letter c) a)
+-- a line makes these calls and prints this; a refused one leaves the desk as it was, its tables and its slots
+abbrev pub MakesLine : Page → List Line → DeskView → Option Command → List Line → DeskView → List ℕ → Type 0
+MakesLine page run d None calls after bytes = (calls ≡ []) × (after ≡ d) × (bytes ≡ printed 63 (Err 18))
+MakesLine page run d (Some c) calls after bytes =
+    (a : Reply) × Makes page run d c a calls × OnErr a (after ≡ d) × (bytes ≡ printed (letter c) a)
 
 -- a line does to the desk what its letter does, makes these calls and prints this, and the desk that it leaves stands at
 -- the end of the longer run
 abbrev pub Plays : Page → List Line → DeskView → List ℕ → List Line → DeskView → List ℕ → Type 0
 Plays page run d line calls after bytes =
-    Runs d line after bytes × MakesLine page run d (command line) calls bytes × AfterRun page (calls ++ run) after
+    Runs d line after bytes × MakesLine page run d (command line) calls after bytes × AfterRun page (calls ++ run) after
 
 -- one line after another: the run and the desk that they lead to, and all that they print
 abbrev pub PlaysAll : Page → List Line → DeskView → List (List ℕ) → List Line → DeskView → List ℕ → Type 0
