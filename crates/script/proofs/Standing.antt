@@ -158,14 +158,14 @@ lines_stand page run d (line ∷ lines) after bytes (between, sheet, rest, first
     let all = lines_stand page (one.0 ++ run) between lines after rest others one.1.2 in
     (all.0, (one.0, between, sheet, rest, one.1, all.1, is), all.2)
 
-pub script_stands : (d : DeskView) (input out : List ℕ) (r : Result Unit AllocError) (after : DeskView) (grown : List ℕ) → Scripted d input out r after grown → ScriptStands d input out r after grown
-script_stands d input out (Ok _) after grown (sheet, all, is) page run stood =
+pub script_stands : (d : DeskView) (input out : List ℕ) (capacity : ℕ) (r : Result Unit AllocError) (after : DeskView) (grown : List ℕ) → Scripted d input out capacity r after grown → ScriptStands d input out capacity r after grown
+script_stands d input out capacity (Ok _) after grown (sheet, all, is) page run stood =
     let stands = lines_stand page run d _ after sheet all stood in
     (stands.0, sheet, stands.1, stands.2, is)
-script_stands d input out (Err _) after grown (done, line, rest, split, between, sheet, lost, all, last, is) page run stood =
+script_stands d input out capacity (Err _) after grown (done, line, rest, split, between, sheet, lost, all, last, is, full) page run stood =
     let stands = lines_stand page run d done between sheet all stood in
     let one = line_stands between line after lost last page stands.0 stands.2 in
-    (done, line, rest, split, stands.0, between, sheet, stands.1, one.0, lost, one.1, is)
+    (done, line, rest, split, stands.0, between, sheet, stands.1, one.0, lost, one.1, is, full)
 
 -- A NEW DESK
 

@@ -1,5 +1,5 @@
 -- What a whole script does and prints. Assumes nothing.
-use Rattle.std.specs.Prelude.{◌≡◌, ℕ, cond, List, [], ◌∷◌, ◌++◌, take, Ok, Err, Result, ◌==◌}
+use Rattle.std.specs.Prelude.{◌≡◌, ℕ, ◌+◌, ◌<◌, cond, List, [], ◌∷◌, ◌++◌, length, take, Ok, Err, Result, ◌==◌}
 use Rattle.std.specs.declared.alloc.AllocError.{AllocError}
 use Rattle.script.specs.Desk.{DeskView, Runs}
 
@@ -22,8 +22,9 @@ abbrev pub RunsAll : DeskView → List (List ℕ) → DeskView → List ℕ → 
 RunsAll d [] after bytes = (after ≡ d) × (bytes ≡ [])
 RunsAll d (line ∷ lines) after bytes = (between : DeskView) × (sheet : List ℕ) × (rest : List ℕ) × Runs d line between sheet × RunsAll between lines after rest × (bytes ≡ sheet ++ rest)
 
--- all lines are run and printed; or some are, and one more is run, for whose bytes there is no memory
-abbrev pub Scripted : DeskView → List ℕ → List ℕ → Result Unit AllocError → DeskView → List ℕ → Type 0
-Scripted d input out (Ok _) after grown = (sheet : List ℕ) × RunsAll d (script input) after sheet × (grown ≡ out ++ sheet)
-Scripted d input out (Err _) after grown =
-    (done : List (List ℕ)) × (line : List ℕ) × (later : List (List ℕ)) × (script input ≡ done ++ (line ∷ later)) × (between : DeskView) × (sheet : List ℕ) × (lost : List ℕ) × RunsAll d done between sheet × Runs between line after lost × (grown ≡ out ++ sheet)
+-- all lines are run and printed; or some are, and one more is run, whose bytes do not fit: what was to be printed with
+-- them is longer than the capacity that the output had
+abbrev pub Scripted : DeskView → List ℕ → List ℕ → ℕ → Result Unit AllocError → DeskView → List ℕ → Type 0
+Scripted d input out capacity (Ok _) after grown = (sheet : List ℕ) × RunsAll d (script input) after sheet × (grown ≡ out ++ sheet)
+Scripted d input out capacity (Err _) after grown =
+    (done : List (List ℕ)) × (line : List ℕ) × (later : List (List ℕ)) × (script input ≡ done ++ (line ∷ later)) × (between : DeskView) × (sheet : List ℕ) × (lost : List ℕ) × RunsAll d done between sheet × Runs between line after lost × (grown ≡ out ++ sheet) × (capacity < length grown + length lost)

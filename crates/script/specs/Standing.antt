@@ -1,6 +1,6 @@
 -- A script as part of a run of the three tables: which calls its lines make, and that its figures are those that
 -- the run counts. Assumes nothing.
-use Rattle.std.specs.Prelude.{◌≡◌, ℕ, ◌<◌, false, cond, ◌⊎◌, List, [], ◌∷◌, ◌++◌, map, ℤ, Some, None, Ok, Err, OnErr, Option, Result, nat_lt, slice_index_or}
+use Rattle.std.specs.Prelude.{◌≡◌, ℕ, ◌+◌, ◌<◌, false, cond, ◌⊎◌, List, [], ◌∷◌, ◌++◌, map, length, ℤ, Some, None, Ok, Err, OnErr, Option, Result, nat_lt, slice_index_or}
 use Rattle.std.specs.List.{ContainsAt as Has, AllByRecursion}
 use Rattle.std.specs.declared.alloc.AllocError.{AllocError}
 use Rattle.kind.specs.Meanings.{on_hand}
@@ -86,12 +86,13 @@ PlaysAll page run d (line ∷ lines) later after bytes =
 
 -- EVERY SCRIPT
 
--- all lines are played and printed; or some are, and one more is played, for whose bytes there is no memory
-abbrev pub Tallied : Page → List Line → DeskView → List ℕ → List ℕ → Result Unit AllocError → DeskView → List ℕ → Type 0
-Tallied page run d input out (Ok _) after grown =
+-- all lines are played and printed; or some are, and one more is played, whose bytes do not fit: what was to be printed
+-- with them is longer than the capacity that the output had
+abbrev pub Tallied : Page → List Line → DeskView → List ℕ → List ℕ → ℕ → Result Unit AllocError → DeskView → List ℕ → Type 0
+Tallied page run d input out capacity (Ok _) after grown =
     (later : List Line) × (sheet : List ℕ) × PlaysAll page run d (script input) later after sheet × AfterRun page later after × (grown ≡ out ++ sheet)
-Tallied page run d input out (Err _) after grown =
-    (done : List (List ℕ)) × (line : List ℕ) × (rest : List (List ℕ)) × (script input ≡ done ++ (line ∷ rest)) × (later : List Line) × (between : DeskView) × (sheet : List ℕ) × PlaysAll page run d done later between sheet × (calls : List Line) × (lost : List ℕ) × Plays page later between line calls after lost × (grown ≡ out ++ sheet)
+Tallied page run d input out capacity (Err _) after grown =
+    (done : List (List ℕ)) × (line : List ℕ) × (rest : List (List ℕ)) × (script input ≡ done ++ (line ∷ rest)) × (later : List Line) × (between : DeskView) × (sheet : List ℕ) × PlaysAll page run d done later between sheet × (calls : List Line) × (lost : List ℕ) × Plays page later between line calls after lost × (grown ≡ out ++ sheet) × (capacity < length grown + length lost)
 
 -- a new desk stands at the end of a run of no lines
 abbrev pub NewStands : DeskView → Type 0
@@ -103,6 +104,6 @@ LineStands d line after bytes =
     (page : Page) (run : List Line) → AfterRun page run d → (calls : List Line) × Plays page run d line calls after bytes
 
 -- wherever it stood before the script
-abbrev pub ScriptStands : DeskView → List ℕ → List ℕ → Result Unit AllocError → DeskView → List ℕ → Type 0
-ScriptStands d input out r after grown =
-    (page : Page) (run : List Line) → AfterRun page run d → Tallied page run d input out r after grown
+abbrev pub ScriptStands : DeskView → List ℕ → List ℕ → ℕ → Result Unit AllocError → DeskView → List ℕ → Type 0
+ScriptStands d input out capacity r after grown =
+    (page : Page) (run : List Line) → AfterRun page run d → Tallied page run d input out capacity r after grown

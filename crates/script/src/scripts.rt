@@ -1,4 +1,4 @@
-ghost use Rattle.std.specs.Prelude.{◌≡◌, ◌<◌, ◌==◌, ◌∷◌, length};
+ghost use Rattle.std.specs.Prelude.{◌≡◌, ◌<◌, ◌==◌, ◌∷◌, length, vec_capacity};
 ghost use Rattle.std.specs.Iterator.{YieldsFirstRef, item_count};
 ghost use Rattle.script.specs.Scripts.{Scripted, lines};
 ghost use Rattle.script.specs.Standing.{ScriptStands};
@@ -51,10 +51,11 @@ impl<'a> Iterator for Lines<'a> {
 }
 
 // Runs the lines of a script on the desk, and appends what they print. A desk at the end of a run is at
-// the end of a longer one then, and each figure printed is what the run counts.
+// the end of a longer one then, and each figure printed is what the run counts. It fails only where the
+// capacity of `out` is below what is to be printed and there is no memory for more.
 pub fn run_script(desk: &mut Desk, input: &[u8], out: &mut Vec<u8>) -> Result<(), AllocError>
-    ensures does { Scripted desk.old input.now out.old.items result desk.new out.new.items }
-    ensures stands { ScriptStands desk.old input.now out.old.items result desk.new out.new.items }
+    ensures does { Scripted desk.old input.now out.old.items (vec_capacity out.old) result desk.new out.new.items }
+    ensures stands { ScriptStands desk.old input.now out.old.items (vec_capacity out.old) result desk.new out.new.items }
 {
     let text = &input[..input.len().min(LONGEST_SCRIPT)];
     for line in (Lines { text }) {

@@ -1,6 +1,7 @@
-use Rattle.std.proofs.Common.{◌≡◌, [], ◌∷◌, ◌++◌, map, Ok, sym, refl, ap, ◌∙◌, subst}
+use Rattle.std.proofs.Common.{◌≡◌, ◌+◌, ◌<◌, [], ◌∷◌, ◌++◌, map, length, Ok, sym, refl, ap, ◌∙◌, subst, arith}
 use Rattle.std.proofs.lemmas.List.{append_assoc, append-nil, map-append}
 use Rattle.std.proofs.lemmas.Result.{err_from_is_err_and}
+use Rattle.std.specs.Vec.{vec_capacity}
 use Rattle.script.specs.Scripts.{RunsAll, Scripted, lines, script}
 use Rattle.script.specs.Sheets.{sheet_bytes}
 use Rattle.script.proofs.Lined.{cut, runs_more}
@@ -10,6 +11,7 @@ use Rattle.script.proofs.scripts.run_script.Goals as goal
 pub loop-line-init : goal.loop-line-init
 loop-line-init c = record {
   whole = ap lines (cut c.args.input.now c.min.result c.min.ensures ∙ sym (ap (λ s. s.text.now) c.into_iter-line-iterator.ensures.into_iter_gives));
+  kept_room = omega arith;
   ran = ([], (refl, refl), sym (append-nil c.args.out.now.items));
 }
 
@@ -26,6 +28,7 @@ loop-line-preserved c =
     let more : map (λ b. b.now) (c.loop-line.yielded ++ (c.in-Some.line ∷ [])) ≡ done ++ (line ∷ []) = map-append (λ b. b.now) c.loop-line.yielded (c.in-Some.line ∷ []) in
     record {
       whole = inv.whole ∙ ap (λ ls. done ++ ls) c.in-Some.ensures.steps ∙ sym (append_assoc done (line ∷ []) (lines c.next.new.self.text.now)) ∙ ap (λ ls. ls ++ lines c.next.new.self.text.now) (sym more);
+      kept_room = omega (arith, inv.kept_room, c.in_ok-extend_from_slice.ensures.capacity);
       ran = (
         before ++ sheet,
         subst (λ ls. RunsAll start ls after (before ++ sheet)) (sym more) (runs_more start c.loop-line.desk after done line before sheet inv.ran.1 c.run-sheet.ensures.does),
@@ -42,8 +45,12 @@ returns-in_err-extend_from_slice c =
     let grown = c.extend_from_slice.new.self.items in
     let inv = c.loop-line.invariant in
     let fault = err_from_is_err_and c.from_residual.result c.from_residual.ensures.1 in
-    let does : Scripted start input out c.from_residual.result after grown =
-    subst (λ r. Scripted start input out r after grown) (sym fault.1) (
+    let room = vec_capacity c.args.out.now in
+    let full : room < length grown + length (sheet_bytes c.run-sheet.result) =
+    omega (arith, inv.kept_room, c.in_err-extend_from_slice.ensures.full, c.loop-line.out.ok.0, ap length c.in_err-extend_from_slice.ensures.items, ap length c.as_slice.ensures)
+    in
+    let does : Scripted start input out room c.from_residual.result after grown =
+    subst (λ r. Scripted start input out room r after grown) (sym fault.1) (
       map (λ b. b.now) c.loop-line.yielded,
       c.in-Some.line.now,
       lines c.next.new.self.text.now,
@@ -54,9 +61,10 @@ returns-in_err-extend_from_slice c =
       inv.ran.1,
       c.run-sheet.ensures.does,
       c.in_err-extend_from_slice.ensures.items ∙ inv.ran.2,
+      full,
     )
     in
-    record { does = does; stands = script_stands start input out c.from_residual.result after grown does }
+    record { does = does; stands = script_stands start input out room c.from_residual.result after grown does }
 
 pub returns : goal.returns
 returns c =
@@ -68,5 +76,6 @@ returns c =
     let inv = c.loop-line.invariant in
     let done = map (λ b. b.now) c.loop-line.yielded in
     let all : script input ≡ done = inv.whole ∙ ap (λ ls. done ++ ls) c.in-None.ensures.steps.0 ∙ append-nil done in
-    let does : Scripted start input out (Ok tt) after grown = (inv.ran.0, subst (λ ls. RunsAll start ls after inv.ran.0) (sym all) inv.ran.1, inv.ran.2) in
-    record { does = does; stands = script_stands start input out (Ok tt) after grown does }
+    let room = vec_capacity c.args.out.now in
+    let does : Scripted start input out room (Ok tt) after grown = (inv.ran.0, subst (λ ls. RunsAll start ls after inv.ran.0) (sym all) inv.ran.1, inv.ran.2) in
+    record { does = does; stands = script_stands start input out room (Ok tt) after grown does }
