@@ -3,7 +3,7 @@ use Rattle.std.proofs.Common.{◌≡◌, ℕ, ◌<◌, true, false, not, List, [
 use Rattle.std.proofs.lemmas.Bool.{and_from, cond-true, eq-eqb}
 use Rattle.action.specs.declared.orders.Action.{Action}
 use Rattle.action.specs.Lawful.{by_table, unless}
-use Rattle.kind.specs.Meanings.{on_hand}
+use Rattle.kind.specs.Meanings.{on_hand, on_hand_knows}
 use Rattle.message.specs.Buffer.{overwritten}
 use Rattle.message.specs.Format.{Message, format}
 use Rattle.table.specs.declared.faults.TableFault.{TableFault}
@@ -26,16 +26,17 @@ use Rattle.script.specs.Standing.{Kept, Makes, at}
 use Rattle.script.specs.Standing.Makes.{moves, commit_refused, write_refused, offers}
 use Rattle.script.proofs.Further.{as_it_is, further, kept_after, kept_now}
 use Rattle.script.proofs.Held.{held_written}
-use Rattle.script.proofs.Refused.{by_decision, commit_faults, offer_faults, write_faults}
+use Rattle.script.proofs.Refused.{by_decision, commit_faults, commit_number, offer_faults, write_faults, write_number}
 
--- a table's open transaction is abandoned by its own ticket
-own_ticket : (v : View) (pending : List Action) → abandon_refusal on_hand (with_transaction true pending v) (ticket on_hand v) ≡ None
-own_ticket v pending =
+-- a table's open transaction has its own ticket
+own_holds : (v : View) (pending : List Action) → holds on_hand (with_transaction true pending v) (ticket on_hand v) ≡ true
+own_holds v pending =
     let t = ticket on_hand v in
-    let holding : holds on_hand (with_transaction true pending v) t ≡ true =
     and_from true _ refl (and_from _ _ (eq-eqb t.group t.group refl) (and_from _ _ (eq-eqb t.kind t.kind refl) (and_from _ _ (eq-eqb t.site t.site refl) (eq-eqb t.clock t.clock refl))))
-    in
-    cond-true (holds on_hand (with_transaction true pending v) t) None (Some (by_table 3 0)) holding
+
+-- so it is abandoned by it
+own_ticket : (v : View) (pending : List Action) → abandon_refusal on_hand (with_transaction true pending v) (ticket on_hand v) ≡ None
+own_ticket v pending = cond-true (holds on_hand (with_transaction true pending v) (ticket on_hand v)) None (Some (by_table 3 0)) (own_holds v pending)
 
 -- a message has bytes
 some_bytes : (m : Message) → [] ≡ format m → ⊥
@@ -70,7 +71,7 @@ module _ (page : Page) (three : page.sites ≡ 3) (run : List Line) (d : DeskVie
 
   -- M
 
-  module _ (article : ℕ) (amount : ℤ) (slot : ℕ) (fits : SFits w32 amount) (held : List ℕ) (kept : Kept run held) where
+  module _ (article : ℕ) (amount : ℤ) (slot : ℕ) (fits : SFits w32 amount) (known : on_hand_knows 1 amount ≡ true) (held : List ℕ) (kept : Kept run held) where
     abbrev c : Command
     c = Move site article amount slot
 
@@ -121,7 +122,7 @@ module _ (page : Page) (three : page.sites ≡ 3) (run : List Line) (d : DeskVie
             let call : Call = Commits t blank (Err (e, t)) blank in
             let calls : List Line = at site (Abandons t (Ok tt)) ∷ (at site call ∷ (at site (writes (Ok (next_time u))) ∷ (at site opens ∷ []))) in
             let refused = on so_far call x x write_ran (is, refl, refl, refl) tt in
-            (calls, commit_refused site article slot amount t (next_time u) e, on (at site call ∷ so_far) (Abandons t (Ok tt)) x (abandoned x) refused (own_ticket v x.pending, refl) tt, kept_after calls run held kept, refl, (as_before, refl))
+            (calls, commit_refused site article slot amount t (next_time u) e (commit_number x t (shown e) (own_holds v x.pending) is), on (at site call ∷ so_far) (Abandons t (Ok tt)) x (abandoned x) refused (own_ticket v x.pending, refl) tt, kept_after calls run held kept, refl, (as_before, refl))
 
         write_granted_goes : Goes c held (moved_written v x (next_time u) held)
         write_granted_goes =
@@ -131,7 +132,7 @@ module _ (page : Page) (three : page.sites ≡ 3) (run : List Line) (d : DeskVie
       write_refused_goes e is =
           let calls : List Line = at site (Abandons t (Ok tt)) ∷ (at site (writes (Err e)) ∷ (at site opens ∷ [])) in
           let refused = on (at site opens ∷ run) (writes (Err e)) u u open_ran (omega arith, fits, (is, refl)) tt in
-          (calls, write_refused site article slot amount t e, on (at site (writes (Err e)) ∷ (at site opens ∷ run)) (Abandons t (Ok tt)) u (abandoned u) refused (own_ticket v v.pending, refl) tt, kept_after calls run held kept, refl, (as_before, refl))
+          (calls, write_refused site article slot amount t e (write_number u t article amount (shown e) (own_holds v v.pending) known none is), on (at site (writes (Err e)) ∷ (at site opens ∷ run)) (Abandons t (Ok tt)) u (abandoned u) refused (own_ticket v v.pending, refl) tt, kept_after calls run held kept, refl, (as_before, refl))
 
       open_granted_goes : Goes c held (moved_opened v u article amount held)
       open_granted_goes = by_decision (Goes c held) (write_refusal on_hand u t article 1 amount) (refused_at (abandoned u) held) (moved_written v x (next_time u) held) (write_faults u t article 1 amount) write_refused_goes write_granted_goes

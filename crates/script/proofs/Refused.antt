@@ -1,6 +1,6 @@
 -- Every refusal of a call of the desk is a fault's, and what a call decides goes by them.
-use Rattle.std.proofs.Common.{◌≡◌, ℕ, ◌+◌, Bool, ltb, leb, List, [], ◌∷◌, length, ℤ, IfSome, Some, None, Option, sym, refl, ap, subst}
-use Rattle.std.proofs.lemmas.Bool.{cond_both}
+use Rattle.std.proofs.Common.{◌≡◌, ℕ, ◌+◌, ◌⊎◌, Bool, true, false, ltb, leb, List, [], ◌∷◌, length, ℤ, IfSome, Some, None, Option, sym, refl, ap, ◌∙◌, subst, inl, inr, ⊎_elim}
+use Rattle.std.proofs.lemmas.Bool.{cond-true, cond_both}
 use Rattle.action.specs.declared.refusals.Refusal.{Refusal}
 use Rattle.action.specs.Lawful.{unless}
 use Rattle.history.specs.declared.faults.HistoryFault.TheVariants.{Full}
@@ -42,3 +42,38 @@ offer_faults v peer article buffer =
 pub by_decision : {X : Type 0} (P : X → Type 0) (o : Option Refusal) (refused : Refusal → X) (granted : X) → IfSome o Fault → ((e : TableFault) → o ≡ Some (shown e) → P (refused (shown e))) → (o ≡ None → P granted) → P (decided o refused granted)
 by_decision P None refused granted faults when-refused when-granted = when-granted refl
 by_decision P (Some r) refused granted (e, is) when-refused when-granted = subst (λ (y : Refusal). P (refused y)) is (when-refused e (ap Some (sym is)))
+
+-- THE NUMBERS OF A MOVEMENT
+
+-- a check that passes does not decide
+past : (passes : Bool) (r : Refusal) (rest o : Option Refusal) → passes ≡ true → unless passes r rest ≡ o → rest ≡ o
+past passes r rest o t is = sym (cond-true passes rest (Some r) t) ∙ is
+
+-- a call is refused by a check, or by one of those after it
+decides : (passes : Bool) (r s : Refusal) (rest : Option Refusal) → unless passes r rest ≡ Some s → (r ≡ s) ⊎ (rest ≡ Some s)
+decides true r s rest is = inr is
+decides false r s rest is = inl cc
+
+no_refusal : (s : Refusal) → None ≡ Some s → ⊥
+no_refusal s is = cc
+
+-- with its own ticket, no other write and a pair that the kind knows
+pub write_number : (v : View) (t : Ticket) (article : ℕ) (amount : ℤ) (s : Refusal) → holds on_hand v t ≡ true → on_hand_knows 1 amount ≡ true → v.pending ≡ [] → write_refusal on_hand v t article 1 amount ≡ Some s → (s.number ≡ 4) ⊎ (s.number ≡ 8)
+write_number v t article amount s held known none is =
+    let number : Refusal → ℕ = λ r. r.number in
+    let few : ltb (length v.pending) 16 ≡ true = ap (λ xs. ltb (length xs) 16) none in
+    ⊎_elim
+    (λ same. inl (sym (ap number same)))
+    (λ others.
+    ⊎_elim
+    (λ same. inr (sym (ap number same)))
+    (λ none. absurd (no_refusal s none))
+    (decides (leb (next_time v) 4000000000) _ s None (past (ltb (length v.pending) 16) _ _ (Some s) few (past (on_hand_knows 1 amount) _ _ (Some s) known others))))
+    (decides (ltb article v.setup.articles) _ s _ (past (holds on_hand v t) _ _ (Some s) held is))
+
+pub commit_number : (v : View) (t : Ticket) (s : Refusal) → holds on_hand v t ≡ true → commit_refusal on_hand v t ≡ Some s → s.number ≡ 16
+commit_number v t s held is =
+    ⊎_elim
+    (λ (same : ◌≡◌ {A = Refusal} _ s). sym (ap (λ (r : Refusal). r.number) same))
+    (λ none. absurd (no_refusal s none))
+    (decides (leb (length v.history + length v.pending) v.capacity) _ s None (past (holds on_hand v t) _ _ (Some s) held is))

@@ -129,7 +129,7 @@ module _ (page : Page) (run : List Line) (d : DeskView) (stood : AfterRun page r
   command_goes_on (Move site article amount slot) a after ranged is =
       let acts = ranged.0 in
       let kept = kept_at run d.slots slot stood.slots in
-      writes site acts (Move site article amount slot) slot _ a after (move_goes page stood.sites_are run d stood.ran site acts (shut site acts) (none site acts) article amount slot ranged.1 (get_or d.slots slot []) kept) is.0 is.1
+      writes site acts (Move site article amount slot) slot _ a after (move_goes page stood.sites_are run d stood.ran site acts (shut site acts) (none site acts) article amount slot ranged.1 ranged.2 (get_or d.slots slot []) kept) is.0 is.1
   command_goes_on (Offer site peer article slot) a after acts is =
       let kept = kept_at run d.slots slot stood.slots in
       writes site acts (Offer site peer article slot) slot _ a after (offer_goes page stood.sites_are run d stood.ran site acts (shut site acts) (none site acts) peer article slot (get_or d.slots slot []) kept) is.0 is.1

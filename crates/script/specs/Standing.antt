@@ -53,11 +53,11 @@ measured (Err e) = refuse (shown e)
 
 -- after this run, which led to this desk, a command makes these calls, the latest first, and answers this
 pub data Makes (page : Page) (run : List Line) (d : DeskView) : Command → Reply → List Line → Type 0 where
-  -- M: open, write and commit; the open is granted, and where the write or the commit is refused the transaction is
-  -- abandoned
+  -- M: open, write and commit; the open is granted, and where the write is refused, by 4 or 8, or the commit, by 16, the
+  -- transaction is abandoned
   moves : (site article slot : ℕ) (amount : ℤ) (t : Ticket) (time : ℕ) (after : List ℕ) (n : ℕ × ℕ) → Makes page run d (Move site article amount slot) (Ok (Answers.Time time)) (at site (Commits t blank (Ok n) after) ∷ (at site (Writes t article 1 amount (Ok time)) ∷ (at site (Opens (Ok t)) ∷ [])))
-  commit_refused : (site article slot : ℕ) (amount : ℤ) (t : Ticket) (time : ℕ) (e : TableFault) → Makes page run d (Move site article amount slot) (refuse (shown e)) (at site (Abandons t (Ok tt)) ∷ (at site (Commits t blank (Err (e, t)) blank) ∷ (at site (Writes t article 1 amount (Ok time)) ∷ (at site (Opens (Ok t)) ∷ []))))
-  write_refused : (site article slot : ℕ) (amount : ℤ) (t : Ticket) (e : TableFault) → Makes page run d (Move site article amount slot) (refuse (shown e)) (at site (Abandons t (Ok tt)) ∷ (at site (Writes t article 1 amount (Err e)) ∷ (at site (Opens (Ok t)) ∷ [])))
+  commit_refused : (site article slot : ℕ) (amount : ℤ) (t : Ticket) (time : ℕ) (e : TableFault) → (shown e).number ≡ 16 → Makes page run d (Move site article amount slot) (refuse (shown e)) (at site (Abandons t (Ok tt)) ∷ (at site (Commits t blank (Err (e, t)) blank) ∷ (at site (Writes t article 1 amount (Ok time)) ∷ (at site (Opens (Ok t)) ∷ []))))
+  write_refused : (site article slot : ℕ) (amount : ℤ) (t : Ticket) (e : TableFault) → ((shown e).number ≡ 4) ⊎ ((shown e).number ≡ 8) → Makes page run d (Move site article amount slot) (refuse (shown e)) (at site (Abandons t (Ok tt)) ∷ (at site (Writes t article 1 amount (Err e)) ∷ (at site (Opens (Ok t)) ∷ [])))
   -- O, into the 1,200 bytes that a message is written into
   offers : (site peer article slot : ℕ) (after : List ℕ) (r : Result ℕ TableFault) → Makes page run d (Offer site peer article slot) (measured r) (at site (Offers peer article blank r after) ∷ [])
   -- T, of just the bytes that the slot holds
