@@ -1,4 +1,5 @@
-// The worked examples: a table that is proved of the definitions, and run by the code.
+// The worked examples as one table (`Table.antt`), each row of which is proved of the definitions. The rows of
+// figures and of the order stand here once more as code, and are proved to come out so.
 #![tactic(auto)]
 
 ghost use Rattle.std.specs.Prelude.{◌≡◌, true};
@@ -91,8 +92,10 @@ fn order_holds() -> bool
     first.precedes(&second) && second.precedes(&third)
 }
 
-// Does the code lead each example of figures and of the order to what it is expected to lead to? It
-// does, and the definitions do so for all examples, those of taking a message among them.
+// Do the examples of figures and of the order come out as expected, as they are written here? They do; and
+// each row of the table holds of the definitions, those of taking a message among them. The second says
+// nothing of this code: that the code computes what the definitions do for all arguments is in the contracts
+// of `Kind::step` and `Action::precedes`.
 pub fn examples_hold() -> bool
     ensures { (result ≡ true) × AllByRecursion Holds examples }
 {
