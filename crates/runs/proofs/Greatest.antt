@@ -24,7 +24,7 @@ module _ (f : ℕ → ℕ) (n : ℕ) where
   most_le : (c : ℕ) → ((k : ℕ) → k < n → f k ≤ c) → most ≤ c
   most_le c each = Listed.greatest_le (λ m. m) c 0 values (omega arith) (All-map (λ m. m ≤ c) f (range_with_len 0 n) (All-weaker (λ k. k < n) (λ k. f k ≤ c) each (range_with_len 0 n) (below_counting n)))
 
-  -- one of them is above what it is above
+  -- a number that is less than the greatest of them is less than one of them
   most_above : (c : ℕ) → c < most → (k : ℕ) × (k < n) × (c < f k)
   most_above c lt =
       let m = Listed.greatest_above (λ m. m) c values lt in
@@ -39,14 +39,14 @@ module _ (page : Page) (b : Book) (s : ℕ) where
   pub greatest_le : (c : ℕ) → ((a q : ℕ) → a < page.articles → q < page.sites → b.reach s a q ≤ c) → greatest page b s ≤ c
   greatest_le c each = most_le (λ a. greatest_of (map (b.reach s a) (range_with_len 0 page.sites))) page.articles c (λ a al. most_le (b.reach s a) page.sites c (λ q ql. each a q al ql))
 
-  -- some time reached is above what it is above
+  -- a time before the greatest is before some time that the site has reached
   pub greatest_above : (c : ℕ) → c < greatest page b s → (a : ℕ) × (q : ℕ) × (a < page.articles) × (q < page.sites) × (c < b.reach s a q)
   greatest_above c lt =
       let one = most_above (λ a. greatest_of (map (b.reach s a) (range_with_len 0 page.sites))) page.articles c lt in
       let two = most_above (b.reach s one.0) page.sites c one.2 in
       (one.0, two.0, one.1, two.1, two.2)
 
-  -- it is what no time reached is above, and is itself not above all of them
+  -- a time is the greatest where no time reached is after it, and each time before it is before one that is reached
   pub greatest_is : (c : ℕ) → ((a q : ℕ) → a < page.articles → q < page.sites → b.reach s a q ≤ c) → ((d : ℕ) → d < c → (a : ℕ) × (q : ℕ) × (a < page.articles) × (q < page.sites) × (d < b.reach s a q)) → c ≡ greatest page b s
   greatest_is c above below =
       ⊎_elim

@@ -1,4 +1,4 @@
--- What goes into a slot.
+-- What a slot holds after a granted or refused move or offer, and that the slots of a new desk are empty.
 use Rattle.std.proofs.Common.{◌≡◌, ℕ, zero, suc, ◌+◌, ◌<◌, List, [], ◌∷◌, length, get_or, take, drop, replicate, ℤ, Some, None, Ok, Err, Result, MatchResult, IsOkAnd, subst, sym, refl, ap, ◌∙◌, arith}
 use Rattle.std.proofs.lemmas.List.{take_at}
 use Rattle.action.specs.declared.refusals.Refusal.{Refusal}

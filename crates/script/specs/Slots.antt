@@ -1,4 +1,4 @@
--- What is to become the message in a slot. Assumes nothing.
+-- The buffer that a table writes a message into, before a slot keeps the message. Assumes nothing.
 use Rattle.std.specs.Prelude.{ℕ, List, replicate}
 
 -- the 1,200 bytes that a call of the table is given to write a message into
