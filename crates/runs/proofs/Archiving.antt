@@ -1,4 +1,4 @@
--- A line that archives an article: what is archived and what the history holds are together the same.
+-- An event that archives an article: what is archived and what the history holds are together the same.
 -- Assumes nothing.
 use Rattle.std.proofs.Common.{◌≡◌, ℕ, ◌<◌, ◌≤◌, true, eqb, leb, List, ◌∷◌, ◌++◌, ℤ, Ok, Err, Result, sym, refl, ap, ◌∙◌, subst, inl, ⊎_elim, append_assoc, arith, w64, SFits}
 use Rattle.std.specs.List.{ContainsAt as Has, AllByRecursion}
@@ -17,17 +17,17 @@ use Rattle.table.specs.View.{View, entry, row}
 use Rattle.table.proofs.Archived.{archive_keeps, archived_entry, archived_others, archived_parts, least_le}
 use Rattle.row.proofs.RowLaws.{row_each}
 use Rattle.runs.specs.Books.{Book, book}
-use Rattle.runs.specs.Lines.{Line}
-use Rattle.runs.specs.Lines.Call.{Archives}
-use Rattle.runs.specs.Runs.{Page, Turn}
+use Rattle.runs.specs.Events.{Event, at}
+use Rattle.runs.specs.Events.Call.{Archives}
+use Rattle.runs.specs.Runs.{Group, Turn}
 use Rattle.runs.proofs.Growing.{stands_after}
-use Rattle.runs.proofs.Opening.{at, grown_pending, stands_still}
+use Rattle.runs.proofs.Opening.{grown_pending, stands_still}
 use Rattle.runs.proofs.Sites.{few_articles, sites_are}
 use Rattle.runs.proofs.Standing.{Gathered, Site, Standing}
 
 module _ (kind : Meaning) (step_fits : (f : ℤ) (o : ℕ) (a : ℤ) → SFits w64 f → SFits w64 (kind.steps f o a)) where
   -- the site archives article a
-  module _ (page : Page) (s : ℕ) (b : Book) (v : View) (a : ℕ) (of_group : s < page.sites) (site : Site kind page b s v) where
+  module _ (group : Group) (s : ℕ) (b : Book) (v : View) (a : ℕ) (of_group : s < group.sites) (site : Site kind group b s v) where
     abbrev w : View
     w = archived kind v a
 
@@ -36,7 +36,7 @@ module _ (kind : Meaning) (step_fits : (f : ℤ) (o : ℕ) (a : ℤ) → SFits w
 
     -- what is archived of article c is known to be everywhere, by one table and the other
     abbrev Everywhere : View → ℕ → Action → Type 0
-    Everywhere u c x = (z q : ℕ) → z < page.sites → q < page.sites → x.time ≤ entry u c z q
+    Everywhere u c x = (z q : ℕ) → z < group.sites → q < group.sites → x.time ≤ entry u c z q
 
     still_everywhere : (c : ℕ) (xs : List Action) → AllByRecursion (Everywhere v c) xs → AllByRecursion (Everywhere w c) xs
     still_everywhere c xs h = All-weaker (Everywhere v c) (Everywhere w c) (λ x k z q zl ql. omega (arith, k z q zl ql, same_entry c z q)) xs h
@@ -44,15 +44,15 @@ module _ (kind : Meaning) (step_fits : (f : ℤ) (o : ℕ) (a : ℤ) → SFits w
     olds_everywhere : AllByRecursion (Everywhere v a) (olds v a)
     olds_everywhere =
         All-weaker (λ x. is_old v a x ≡ true) (Everywhere v a) (λ x h z q zl ql.
-        let sites = sites_are kind page b s of_group v site in
+        let sites = sites_are kind group b s of_group v site in
         omega (arith, leb-true x.time (least v a) (and_parts (eqb x.article a) (leb x.time (least v a)) h).1, least_le v a z q (omega (arith, sites)) (omega (arith, sites)))) (olds v a) (kept_by_passes (is_old v a) v.history)
 
-    module _ (c : ℕ) (cl : c < page.articles) (g : Gathered kind page b s v c) where
+    module _ (c : ℕ) (cl : c < group.articles) (g : Gathered kind group b s v c) where
       new_row : row w c ≡ archived_row kind v a c (row v c)
-      new_row = row_each (archived_row kind v a) v.rows c (omega (arith, site.sound.each_article, few_articles kind page b s of_group v site))
+      new_row = row_each (archived_row kind v a) v.rows c (omega (arith, site.sound.each_article, few_articles kind group b s of_group v site))
 
       -- the same actions, of which the first are archived
-      regathered : (xs : List Action) → (row w c).base ≡ working kind.steps kind.starts xs → xs ++ on c w.history ≡ g.archived ++ on c v.history → AllByRecursion (Everywhere w c) xs → Gathered kind page b s w c
+      regathered : (xs : List Action) → (row w c).base ≡ working kind.steps kind.starts xs → xs ++ on c w.history ≡ g.archived ++ on c v.history → AllByRecursion (Everywhere w c) xs → Gathered kind group b s w c
       regathered xs based together everywhere = record {
         archived = xs;
         based = based;
@@ -62,14 +62,14 @@ module _ (kind : Meaning) (step_fits : (f : ℤ) (o : ℕ) (a : ℤ) → SFits w
         everywhere = everywhere;
       }
 
-      gathered_other : (c ≡ a → ⊥) → Gathered kind page b s w c
+      gathered_other : (c ≡ a → ⊥) → Gathered kind group b s w c
       gathered_other other =
           regathered g.archived
           (ap (λ (r : Row). r.base) new_row ∙ cond-false (eqb c a) _ _ (ne_eqb c a other) ∙ g.based)
           (ap (λ l. g.archived ++ l) (archived_others v a c other))
           (still_everywhere c g.archived g.everywhere)
 
-      gathered_same : c ≡ a → Gathered kind page b s w c
+      gathered_same : c ≡ a → Gathered kind group b s w c
       gathered_same same =
           regathered (g.archived ++ olds v a)
           (ap (λ (r : Row). r.base) new_row ∙ cond-true (eqb c a) _ _ (eq-eqb c a same) ∙ ap (λ f. working kind.steps f (olds v a)) g.based ∙ sym (working_append kind.steps kind.starts g.archived (olds v a)))
@@ -79,7 +79,7 @@ module _ (kind : Meaning) (step_fits : (f : ℤ) (o : ℕ) (a : ℤ) → SFits w
           parts : olds v a ++ on c w.history ≡ on c v.history
           parts = subst (λ (n : ℕ). olds v a ++ on n w.history ≡ on n v.history) (sym same) (sym (archived_parts v a site.sound.ordered))
 
-    archive_site : Sound kind w → Site kind page b s w
+    archive_site : Sound kind w → Site kind group b s w
     archive_site sound = record {
       sound = sound;
       setup_is = site.setup_is;
@@ -90,18 +90,18 @@ module _ (kind : Meaning) (step_fits : (f : ℤ) (o : ℕ) (a : ℤ) → SFits w
       gathered = λ c cl. let g = site.gathered c cl in ⊎_elim (gathered_same c cl g) (gathered_other c cl g) (cases_eq c a);
     }
 
-  module _ (page : Page) (before : List Line) (s : ℕ) (old views : ℕ → View) (st : Standing kind page before old) where
-    pub archive_stands : (article : ℕ) (r : Result ℕ TableFault) → Turn kind page before (at s (Archives article r)) old views → Standing kind page (at s (Archives article r) ∷ before) views
-    archive_stands article (Err e) turn = stands_still kind page before s old views st (Archives article (Err e)) turn refl turn.does.1 (inl refl) tt
+  module _ (group : Group) (before : List Event) (s : ℕ) (old views : ℕ → View) (st : Standing kind group before old) where
+    pub archive_stands : (article : ℕ) (r : Result ℕ TableFault) → Turn kind group before (at s (Archives article r)) old views → Standing kind group (at s (Archives article r) ∷ before) views
+    archive_stands article (Err e) turn = stands_still kind group before s old views st (Archives article (Err e)) turn refl turn.does.1 (inl refl) tt
     archive_stands article (Ok n) turn =
         let of_group = turn.of_group in
-        let b : Book = book page before in
+        let b : Book = book group before in
         let site = st.sites s of_group in
         let is-after : views s ≡ archived kind (old s) article = turn.does.2 in
         let sound : Sound kind (archived kind (old s) article) = subst (Sound kind) is-after (archive_keeps kind step_fits (old s) (views s) site.sound article (Ok n) turn.does) in
-        stands_after kind page before (at s (Archives article (Ok n))) old views turn st
-        (grown_pending kind page s of_group b b.pending (λ z ne. refl) st.ledger)
-        (subst (Site kind page b s) (sym is-after) (archive_site page s b (old s) article of_group site sound))
-        (λ a z q. omega (arith, ap (λ (u : View). entry u a z q) is-after, same_entry page s b (old s) article of_group site a z q))
+        stands_after kind group before (at s (Archives article (Ok n))) old views turn st
+        (grown_pending kind group s of_group b b.pending (λ z ne. refl) st.account)
+        (subst (Site kind group b s) (sym is-after) (archive_site group s b (old s) article of_group site sound))
+        (λ a z q. omega (arith, ap (λ (u : View). entry u a z q) is-after, same_entry group s b (old s) article of_group site a z q))
         (inl refl)
         tt

@@ -19,13 +19,13 @@ use Rattle.table.proofs.Lawfulness.{Pending, told}
 use Rattle.table.proofs.Soundness.{committed_entry_column, committed_entry_ge, committed_entry_own, committed_entry_row, committed_row_lem, committed_sound}
 use Rattle.table.proofs.Waiting.{waiting_ascending, waiting_distinct, waiting_last}
 use Rattle.runs.specs.Books.{Book, own_times, reaching, with_committed, with_pending}
-use Rattle.runs.specs.Runs.{Page}
+use Rattle.runs.specs.Runs.{Group}
 use Rattle.runs.proofs.Greatest.{greatest_above, greatest_is}
 use Rattle.runs.proofs.Growing.{Grown, New}
 use Rattle.runs.proofs.Sites.{articles_are, few_articles, own_entry, own_is, reached_clocked}
-use Rattle.runs.proofs.Standing.{Gathered, Ledger, Reached, Recorded, Site}
+use Rattle.runs.proofs.Standing.{Gathered, Account, Reached, Recorded, Site}
 
-module _ (kind : Meaning) (page : Page) (b : Book) (s : ℕ) (of_group : s < page.sites) (v : View) (site : Site kind page b s v) (l : Ledger page b) where
+module _ (kind : Meaning) (group : Group) (b : Book) (s : ℕ) (of_group : s < group.sites) (v : View) (site : Site kind group b s v) (l : Account group b) where
   abbrev pending : List Action
   pending = b.pending s
 
@@ -39,7 +39,7 @@ module _ (kind : Meaning) (page : Page) (b : Book) (s : ℕ) (of_group : s < pag
   own = v.setup.own
 
   own_s : own ≡ s
-  own_s = own_is kind page b s of_group v site
+  own_s = own_is kind group b s of_group v site
 
   same : pending ≡ v.pending
   same = site.pending_is
@@ -67,21 +67,21 @@ module _ (kind : Meaning) (page : Page) (b : Book) (s : ℕ) (of_group : s < pag
   pending_told : (a : ℕ) (x : Action) → Has pending x → Pending kind v site.sound a x
   pending_told a x h = all-has (Pending kind v site.sound a) v.pending x (told kind v site.sound a) (subst (λ (xs : List Action). Has xs x) same h)
 
-  pending_new : (x : Action) → Has pending x → New page s b after x
+  pending_new : (x : Action) → Has pending x → New group s b after x
   pending_new x h =
       let t = pending_told x.article x h in
       record {
         own = t.own_site ∙ own_s;
-        listed = omega (arith, t.fitting.listed, articles_are kind page b s of_group v site);
+        listed = omega (arith, t.fitting.listed, articles_are kind group b s of_group v site);
         later = omega (arith, t.later, site.clock_is);
         had = omega (arith, t.latest_on refl, commit_reach_own x.article, ap (latest x.article) same);
       }
 
-  pub commit_grows : Grown page s b after
+  pub commit_grows : Grown group s b after
   commit_grows = record {
     new = pending;
     adds = refl;
-    each = all_from_has (New page s b after) pending pending_new;
+    each = all_from_has (New group s b after) pending pending_new;
     apart = subst Distinct (sym same) (waiting_distinct kind v.setup v.clock 0 v.pending site.sound.waiting);
     raised = reach_raised;
     others = reach_row;
@@ -98,7 +98,7 @@ module _ (kind : Meaning) (page : Page) (b : Book) (s : ℕ) (of_group : s < pag
   commit_cases x h = has_append_cases b.committed pending x h
 
   pub old_own : (x : Action) → Has b.committed x → x.coordinator ≡ s → x.time ≤ b.reach s x.article s
-  old_own x h is = subst (λ (n : ℕ). x.time ≤ b.reach n x.article n) is (all-has (Recorded page b) b.committed x l.each h).had
+  old_own x h is = subst (λ (n : ℕ). x.time ≤ b.reach n x.article n) is (all-has (Recorded group b) b.committed x l.each h).had
 
   -- THE SITE
 
@@ -106,20 +106,20 @@ module _ (kind : Meaning) (page : Page) (b : Book) (s : ℕ) (of_group : s < pag
     sound : Sound kind w
     sound = committed_sound kind v site.sound free
 
-    vector_own : (a : ℕ) → a < page.articles → entry w a s s ≡ after.reach s a s
+    vector_own : (a : ℕ) → a < group.articles → entry w a s s ≡ after.reach s a s
     vector_own a al =
-        let lt : a < 64 = omega (arith, few_articles kind page b s of_group v site) in
-        let before : entry v a own own ≡ b.reach s a s = ap (λ (n : ℕ). entry v a own n) own_s ∙ own_entry kind page b s of_group v site a s al of_group in
+        let lt : a < 64 = omega (arith, few_articles kind group b s of_group v site) in
+        let before : entry v a own own ≡ b.reach s a s = ap (λ (n : ℕ). entry v a own n) own_s ∙ own_entry kind group b s of_group v site a s al of_group in
         ap (λ (n : ℕ). entry w a n n) (sym own_s) ∙ committed_entry_own kind v site.sound free a lt ∙ (λ i. max (before i) (latest a (sym same i))) ∙ sym (commit_reach_own a)
 
-    vector : (a q : ℕ) → a < page.articles → q < page.sites → entry w a s q ≡ after.reach s a q
+    vector : (a q : ℕ) → a < group.articles → q < group.sites → entry w a s q ≡ after.reach s a q
     vector a q al ql =
         ⊎_elim
         (λ e. subst (λ (n : ℕ). entry w a s n ≡ after.reach s a n) (sym e) (vector_own a al))
-        (λ ne. ap (λ (n : ℕ). entry w a n q) (sym own_s) ∙ committed_entry_column kind v site.sound free a q (λ e. ne (e ∙ own_s)) ∙ own_entry kind page b s of_group v site a q al ql ∙ sym (reach_column a q ne))
+        (λ ne. ap (λ (n : ℕ). entry w a n q) (sym own_s) ∙ committed_entry_column kind v site.sound free a q (λ e. ne (e ∙ own_s)) ∙ own_entry kind group b s of_group v site a q al ql ∙ sym (reach_column a q ne))
         (cases_eq q s)
 
-    believed : (a z q : ℕ) → a < page.articles → z < page.sites → q < page.sites → entry w a z q ≤ after.reach z a q
+    believed : (a z q : ℕ) → a < group.articles → z < group.sites → q < group.sites → entry w a z q ≤ after.reach z a q
     believed a z q al zl ql =
         ⊎_elim
         (λ e. subst (λ (n : ℕ). entry w a n q ≤ after.reach n a q) (sym e) (omega (arith, vector a q al ql)))
@@ -127,19 +127,19 @@ module _ (kind : Meaning) (page : Page) (b : Book) (s : ℕ) (of_group : s < pag
         (cases_eq z s)
 
     -- the clock is the time of the last pending action, or where there is none what it was
-    clock_below : (d : ℕ) → d < w.clock → (a : ℕ) × (q : ℕ) × (a < page.articles) × (q < page.sites) × (d < after.reach s a q)
+    clock_below : (d : ℕ) → d < w.clock → (a : ℕ) × (q : ℕ) × (a < group.articles) × (q < group.sites) × (d < after.reach s a q)
     clock_below d lt =
         ⊎_elim
         (λ none.
-        let h = greatest_above page b s d (omega (arith, lt, site.clock_is, ap length none)) in
+        let h = greatest_above group b s d (omega (arith, lt, site.clock_is, ap length none)) in
         (h.0, h.1, h.2, h.3, omega (arith, h.4, reach_raised h.0 h.1)))
         (λ h.
         let n = pending_new h.0 (subst (λ (xs : List Action). Has xs h.0) (sym same) h.1) in
         (h.0.article, s, n.listed, of_group, omega (arith, n.had, h.2, lt)))
         (waiting_last kind v.setup v.clock 0 v.pending site.sound.waiting)
 
-    module _ (a : ℕ) (al : a < page.articles) where
-      abbrev g : Gathered kind page b s v a
+    module _ (a : ℕ) (al : a < group.articles) where
+      abbrev g : Gathered kind group b s v a
       g = site.gathered a al
 
       abbrev had : List Action
@@ -151,7 +151,7 @@ module _ (kind : Meaning) (page : Page) (b : Book) (s : ℕ) (of_group : s < pag
       in_order_lem : Ascending (had ++ on a v.pending)
       in_order_lem =
           ascending_append v.clock had (on a v.pending)
-          (all_from_has (λ x. x.time ≤ v.clock) had (λ x h. reached_clocked kind page b s of_group v site l a al x (g.sure x h)))
+          (all_from_has (λ x. x.time ≤ v.clock) had (λ x h. reached_clocked kind group b s of_group v site l a al x (g.sure x h)))
           (all_kept_by (λ x. eqb x.article a) (λ x. v.clock < x.time) v.pending (All-weaker (Pending kind v site.sound a) (λ x. v.clock < x.time) (λ x h. h.later) v.pending (told kind v site.sound a)))
           g.ordered
           (ascending_kept (λ x. eqb x.article a) v.pending (waiting_ascending kind v.setup v.clock 0 v.pending site.sound.waiting))
@@ -178,10 +178,10 @@ module _ (kind : Meaning) (page : Page) (b : Book) (s : ℕ) (of_group : s < pag
             (cases_eq x.coordinator s),
       )
 
-      gathered : Gathered kind page after s w a
+      gathered : Gathered kind group after s w a
       gathered = record {
         archived = g.archived;
-        based = ap (λ (r : Row). r.base) (committed_row_lem kind v site.sound free a (omega (arith, few_articles kind page b s of_group v site))) ∙ g.based;
+        based = ap (λ (r : Row). r.base) (committed_row_lem kind v site.sound free a (omega (arith, few_articles kind group b s of_group v site))) ∙ g.based;
         ordered = subst Ascending whole_list in_order_lem;
         sure = λ x h.
             ⊎_elim
@@ -193,15 +193,15 @@ module _ (kind : Meaning) (page : Page) (b : Book) (s : ℕ) (of_group : s < pag
             (λ old. has_append_left had (on a v.pending) x (g.whole x (was_reached x old r.1 r.2)))
             (λ mine. has_append_right had (on a v.pending) x (has_kept_by (λ y. eqb y.article a) v.pending x (subst (λ (xs : List Action). Has xs x) same mine) (eq-eqb x.article a r.1)))
             (commit_cases x r.0));
-        everywhere = All-weaker (λ x. (z q : ℕ) → z < page.sites → q < page.sites → x.time ≤ entry v a z q) (λ x. (z q : ℕ) → z < page.sites → q < page.sites → x.time ≤ entry w a z q) (λ x h z q zl ql. omega (arith, h z q zl ql, committed_entry_ge kind v site.sound free a z q)) g.archived g.everywhere;
+        everywhere = All-weaker (λ x. (z q : ℕ) → z < group.sites → q < group.sites → x.time ≤ entry v a z q) (λ x. (z q : ℕ) → z < group.sites → q < group.sites → x.time ≤ entry w a z q) (λ x h z q zl ql. omega (arith, h z q zl ql, committed_entry_ge kind v site.sound free a z q)) g.archived g.everywhere;
       }
 
-    pub commit_site : Site kind page after s w
+    pub commit_site : Site kind group after s w
     commit_site = record {
       sound = sound;
       setup_is = site.setup_is;
       vector = vector;
-      clock_is = greatest_is page after s w.clock (λ a q al ql. omega (arith, sym (vector a q al ql), ap (λ (n : ℕ). entry w a n q) own_s, sound.clocked a q)) clock_below;
+      clock_is = greatest_is group after s w.clock (λ a q al ql. omega (arith, sym (vector a q al ql), ap (λ (n : ℕ). entry w a n q) own_s, sound.clocked a q)) clock_below;
       pending_is = cond-true (eqb s s) [] (b.pending s) (eq-eqb s s refl);
       believed = believed;
       gathered = gathered;

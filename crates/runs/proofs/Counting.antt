@@ -15,16 +15,16 @@ use Rattle.kind.proofs.Workings.{working_append}
 use Rattle.table.specs.Answers.{figure}
 use Rattle.table.specs.View.{View, entry}
 use Rattle.runs.specs.Books.{Book, book, counted, counted_by_all, reaches}
+use Rattle.runs.specs.Events.{Event}
 use Rattle.runs.specs.Laws.{CountsEachOnce, HadByItsCoordinator, LevelWhereNothingOpen, NothingOpen}
-use Rattle.runs.specs.Lines.{Line}
-use Rattle.runs.specs.Runs.{Page}
+use Rattle.runs.specs.Runs.{Group}
 use Rattle.runs.proofs.Sites.{few_articles, own_is}
-use Rattle.runs.proofs.Standing.{Gathered, Ledger, Reached, Recorded, Site, Standing}
+use Rattle.runs.proofs.Standing.{Gathered, Account, Reached, Recorded, Site, Standing}
 
 -- ONE SITE
 
-module _ (kind : Meaning) (page : Page) (b : Book) (l : Ledger page b) (s : ℕ) (of_group : s < page.sites) (v : View) (site : Site kind page b s v) (a : ℕ) (al : a < page.articles) where
-  abbrev g : Gathered kind page b s v a
+module _ (kind : Meaning) (group : Group) (b : Book) (l : Account group b) (s : ℕ) (of_group : s < group.sites) (v : View) (site : Site kind group b s v) (a : ℕ) (al : a < group.articles) where
+  abbrev g : Gathered kind group b s v a
   g = site.gathered a al
 
   abbrev has_it : Action → Bool
@@ -50,60 +50,60 @@ module _ (kind : Meaning) (page : Page) (b : Book) (l : Ledger page b) (s : ℕ)
   whole_working : figure v a ≡ working kind.steps kind.starts (g.archived ++ on a v.history)
   whole_working =
       let steps = kind.steps in
-      site.sound.worked a (omega (arith, few_articles kind page b s of_group v site)) ∙ ap (λ f. working steps f (on a v.history)) g.based ∙ sym (working_append steps kind.starts g.archived (on a v.history))
+      site.sound.worked a (omega (arith, few_articles kind group b s of_group v site)) ∙ ap (λ f. working steps f (on a v.history)) g.based ∙ sym (working_append steps kind.starts g.archived (on a v.history))
 
   counts : figure v a ≡ counted kind b s a
   counts = whole_working ∙ ap (working kind.steps kind.starts) all_of_it
 
 -- ALL SITES
 
-module _ (kind : Meaning) (page : Page) (lines : List Line) (views : ℕ → View) (st : Standing kind page lines views) where
+module _ (kind : Meaning) (group : Group) (events : List Event) (views : ℕ → View) (st : Standing kind group events views) where
   abbrev b : Book
-  b = book page lines
+  b = book group events
 
-  had : (x : Action) → Recorded page b x → HadByItsCoordinator page b x
+  had : (x : Action) → Recorded group b x → HadByItsCoordinator group b x
   had x known = record {
     coordinated = known.coordinated;
     listed = known.listed;
     had = le-leb x.time (b.reach x.coordinator x.article x.coordinator) known.had;
   }
 
-  pub counts_each_once : CountsEachOnce kind page lines views
+  pub counts_each_once : CountsEachOnce kind group events views
   counts_each_once = record {
-    distinct = st.ledger.distinct;
-    had = All-weaker (Recorded page b) (HadByItsCoordinator page b) had b.committed st.ledger.each;
+    distinct = st.account.distinct;
+    had = All-weaker (Recorded group b) (HadByItsCoordinator group b) had b.committed st.account.each;
     vector = λ s a q sl al ql. (st.sites s sl).vector a q al ql;
-    figured = λ s a sl al. counts kind page b st.ledger s sl (views s) (st.sites s sl) a al;
+    figured = λ s a sl al. counts kind group b st.account s sl (views s) (st.sites s sl) a al;
   }
 
-  module _ (a : ℕ) (al : a < page.articles) (none : NothingOpen page views a) where
+  module _ (a : ℕ) (al : a < group.articles) (none : NothingOpen group views a) where
     -- every site has all that another has done
-    level_reach : (s q : ℕ) → s < page.sites → q < page.sites → b.reach s a q ≡ b.reach q a q
+    level_reach : (s q : ℕ) → s < group.sites → q < group.sites → b.reach s a q ≡ b.reach q a q
     level_reach s q sl ql =
         let site = st.sites q ql in
-        let own = own_is kind page b q ql (views q) site in
+        let own = own_is kind group b q ql (views q) site in
         let shut : entry (views q) a (views q).setup.own (views q).setup.own ≤ entry (views q) a s (views q).setup.own = ltb-false _ _ (none q s ql sl) in
         let known : entry (views q) a q q ≤ entry (views q) a s q = subst (λ (n : ℕ). entry (views q) a n n ≤ entry (views q) a s n) own shut in
-        omega (arith, site.vector a q al ql, site.believed a s q al sl ql, st.ledger.no_more s a q sl al ql)
+        omega (arith, site.vector a q al ql, site.believed a s q al sl ql, st.account.no_more s a q sl al ql)
 
     -- so what it has of the article is all that is committed on it, in order
-    all_committed : (s : ℕ) (sl : s < page.sites) → ((st.sites s sl).gathered a al).archived ++ on a (views s).history ≡ in_order (on a b.committed)
+    all_committed : (s : ℕ) (sl : s < group.sites) → ((st.sites s sl).gathered a al).archived ++ on a (views s).history ≡ in_order (on a b.committed)
     all_committed s sl =
         let on_it : Action → Bool = λ x. eqb x.article a in
         let g = (st.sites s sl).gathered a al in
-        ascending_same (g.archived ++ on a (views s).history) (in_order (on a b.committed)) g.ordered (in_order_ascending (on a b.committed) (distinct_kept on_it b.committed st.ledger.distinct))
+        ascending_same (g.archived ++ on a (views s).history) (in_order (on a b.committed)) g.ordered (in_order_ascending (on a b.committed) (distinct_kept on_it b.committed st.account.distinct))
         (λ x h. let r = g.sure x h in has_in_order (on a b.committed) x (has_kept_by on_it b.committed x r.0 (eq-eqb x.article a r.1)))
         (λ x h.
         let k = has_kept_by_parts on_it b.committed x (in_order_has (on a b.committed) x h) in
         let is : x.article ≡ a = eqb-true x.article a k.1 in
-        let known = all-has (Recorded page b) b.committed x st.ledger.each k.0 in
+        let known = all-has (Recorded group b) b.committed x st.account.each k.0 in
         let done : x.time ≤ b.reach x.coordinator a x.coordinator = subst (λ (n : ℕ). x.time ≤ b.reach x.coordinator n x.coordinator) is known.had in
         g.whole x (k.0, is, omega (arith, done, level_reach s x.coordinator sl known.coordinated)))
 
-    whole : (s : ℕ) → s < page.sites → figure (views s) a ≡ counted_by_all kind b a
-    whole s sl = whole_working kind page b st.ledger s sl (views s) (st.sites s sl) a al ∙ ap (working kind.steps kind.starts) (all_committed s sl)
+    whole : (s : ℕ) → s < group.sites → figure (views s) a ≡ counted_by_all kind b a
+    whole s sl = whole_working kind group b st.account s sl (views s) (st.sites s sl) a al ∙ ap (working kind.steps kind.starts) (all_committed s sl)
 
-    pub level : LevelWhereNothingOpen kind page lines views a
+    pub level : LevelWhereNothingOpen kind group events views a
     level = record {
       whole = whole;
       same_figure = λ s t sl tl. whole s sl ∙ sym (whole t tl);

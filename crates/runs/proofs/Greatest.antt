@@ -6,7 +6,7 @@ use Rattle.std.proofs.lemmas.Bool.{cases_lt}
 use Rattle.table.proofs.Greatest as Listed
 use Rattle.table.proofs.Rising.{below_counting, has_counted}
 use Rattle.runs.specs.Books.{Book, greatest, greatest_of}
-use Rattle.runs.specs.Runs.{Page}
+use Rattle.runs.specs.Runs.{Group}
 
 -- OF A FUNCTION
 
@@ -32,24 +32,24 @@ module _ (f : ℕ → ℕ) (n : ℕ) where
 
 -- OF A SITE
 
-module _ (page : Page) (b : Book) (s : ℕ) where
-  pub greatest_ge : (a q : ℕ) → a < page.articles → q < page.sites → b.reach s a q ≤ greatest page b s
-  greatest_ge a q al ql = omega (arith, most_ge (b.reach s a) page.sites q ql, most_ge (λ c. greatest_of (map (b.reach s c) (range_with_len 0 page.sites))) page.articles a al)
+module _ (group : Group) (b : Book) (s : ℕ) where
+  pub greatest_ge : (a q : ℕ) → a < group.articles → q < group.sites → b.reach s a q ≤ greatest group b s
+  greatest_ge a q al ql = omega (arith, most_ge (b.reach s a) group.sites q ql, most_ge (λ c. greatest_of (map (b.reach s c) (range_with_len 0 group.sites))) group.articles a al)
 
-  pub greatest_le : (c : ℕ) → ((a q : ℕ) → a < page.articles → q < page.sites → b.reach s a q ≤ c) → greatest page b s ≤ c
-  greatest_le c each = most_le (λ a. greatest_of (map (b.reach s a) (range_with_len 0 page.sites))) page.articles c (λ a al. most_le (b.reach s a) page.sites c (λ q ql. each a q al ql))
+  pub greatest_le : (c : ℕ) → ((a q : ℕ) → a < group.articles → q < group.sites → b.reach s a q ≤ c) → greatest group b s ≤ c
+  greatest_le c each = most_le (λ a. greatest_of (map (b.reach s a) (range_with_len 0 group.sites))) group.articles c (λ a al. most_le (b.reach s a) group.sites c (λ q ql. each a q al ql))
 
   -- a time before the greatest is before some time that the site has reached
-  pub greatest_above : (c : ℕ) → c < greatest page b s → (a : ℕ) × (q : ℕ) × (a < page.articles) × (q < page.sites) × (c < b.reach s a q)
+  pub greatest_above : (c : ℕ) → c < greatest group b s → (a : ℕ) × (q : ℕ) × (a < group.articles) × (q < group.sites) × (c < b.reach s a q)
   greatest_above c lt =
-      let one = most_above (λ a. greatest_of (map (b.reach s a) (range_with_len 0 page.sites))) page.articles c lt in
-      let two = most_above (b.reach s one.0) page.sites c one.2 in
+      let one = most_above (λ a. greatest_of (map (b.reach s a) (range_with_len 0 group.sites))) group.articles c lt in
+      let two = most_above (b.reach s one.0) group.sites c one.2 in
       (one.0, two.0, one.1, two.1, two.2)
 
   -- a time is the greatest where no time reached is after it, and each time before it is before one that is reached
-  pub greatest_is : (c : ℕ) → ((a q : ℕ) → a < page.articles → q < page.sites → b.reach s a q ≤ c) → ((d : ℕ) → d < c → (a : ℕ) × (q : ℕ) × (a < page.articles) × (q < page.sites) × (d < b.reach s a q)) → c ≡ greatest page b s
+  pub greatest_is : (c : ℕ) → ((a q : ℕ) → a < group.articles → q < group.sites → b.reach s a q ≤ c) → ((d : ℕ) → d < c → (a : ℕ) × (q : ℕ) × (a < group.articles) × (q < group.sites) × (d < b.reach s a q)) → c ≡ greatest group b s
   greatest_is c above below =
       ⊎_elim
-      (λ lt. let h = below (greatest page b s) lt in absurd (omega (arith, h.4, greatest_ge h.0 h.1 h.2 h.3)))
+      (λ lt. let h = below (greatest group b s) lt in absurd (omega (arith, h.4, greatest_ge h.0 h.1 h.2 h.3)))
       (λ ge. omega (arith, greatest_le c above))
-      (cases_lt (greatest page b s) c)
+      (cases_lt (greatest group b s) c)

@@ -1,4 +1,4 @@
--- One line more: what is left to show of its site, once the book is seen to grow. Assumes nothing.
+-- One event more: what is left to show of its site, once the book is seen to grow. Assumes nothing.
 use Rattle.std.proofs.Common.{◌≡◌, ℕ, ◌<◌, ◌≤◌, ◌⊎◌, List, ◌∷◌, ◌++◌, map, Ok, Err, sym, ap, ◌∙◌, subst, inl, inr, ⊎_elim, arith}
 use Rattle.std.specs.List.{range_with_len, ContainsAt as Has, AllByRecursion}
 use Rattle.std.proofs.ByRecursion.{All-append, all-has, All-weaker, has_append_left}
@@ -13,31 +13,31 @@ use Rattle.message.specs.Format.{Message, carried, stretches}
 use Rattle.message.proofs.Carried.{stretches_lawful}
 use Rattle.table.specs.View.{View, entry}
 use Rattle.runs.specs.Books.{Book, book, greatest, greatest_of}
-use Rattle.runs.specs.Lines.{Call, Line, wrote}
-use Rattle.runs.specs.Lines.Call.{Opens, Writes, Commits, Abandons, Offers, Takes, Archives}
-use Rattle.runs.specs.Runs.{Page, Turn}
+use Rattle.runs.specs.Events.{Call, Event, wrote}
+use Rattle.runs.specs.Events.Call.{Opens, Writes, Commits, Abandons, Offers, Takes, Archives}
+use Rattle.runs.specs.Runs.{Group, Turn}
 use Rattle.runs.proofs.Greatest.{greatest_ge}
-use Rattle.runs.proofs.Standing.{Absorbed, Credits, Gathered, Ledger, Recorded, Sent, Site, Standing, Told, Truthful}
+use Rattle.runs.proofs.Standing.{Absorbed, Credits, Gathered, Account, Recorded, Sent, Site, Standing, Told, Truthful}
 
 -- an action that the site commits now: it is later than all that the site has
-pub record New (page : Page) (s : ℕ) (b after : Book) (x : Action) : Type 0 where
+pub record New (group : Group) (s : ℕ) (b after : Book) (x : Action) : Type 0 where
   pub own : x.coordinator ≡ s
-  pub listed : x.article < page.articles
-  pub later : greatest page b s < x.time
+  pub listed : x.article < group.articles
+  pub later : greatest group b s < x.time
   pub had : x.time ≤ after.reach s x.article s
 
--- the book after a line of the site: what it has is more, and what the others have is the same
-pub record Grown (page : Page) (s : ℕ) (b after : Book) : Type 0 where
+-- the book after an event of the site: what it has is more, and what the others have is the same
+pub record Grown (group : Group) (s : ℕ) (b after : Book) : Type 0 where
   pub new : List Action
   pub adds : after.committed ≡ b.committed ++ new
-  pub each : AllByRecursion (New page s b after) new
+  pub each : AllByRecursion (New group s b after) new
   pub apart : Distinct new
   pub raised : (a q : ℕ) → b.reach s a q ≤ after.reach s a q
   pub others : (z : ℕ) → (z ≡ s → ⊥) → after.reach z ≡ b.reach z
   pub others_pending : (z : ℕ) → (z ≡ s → ⊥) → after.pending z ≡ b.pending z
-  pub no_more : (a q : ℕ) → a < page.articles → q < page.sites → after.reach s a q ≤ after.reach q a q
+  pub no_more : (a q : ℕ) → a < group.articles → q < group.sites → after.reach s a q ≤ after.reach q a q
 
-module _ (kind : Meaning) (page : Page) (s : ℕ) (of_group : s < page.sites) (b after : Book) (g : Grown page s b after) (l : Ledger page b) where
+module _ (kind : Meaning) (group : Group) (s : ℕ) (of_group : s < group.sites) (b after : Book) (g : Grown group s b after) (l : Account group b) where
   other_reach : (z a q : ℕ) → (z ≡ s → ⊥) → after.reach z a q ≡ b.reach z a q
   other_reach z a q ne = ap (λ (r : ℕ → ℕ → ℕ). r a q) (g.others z ne)
 
@@ -53,36 +53,36 @@ module _ (kind : Meaning) (page : Page) (s : ℕ) (of_group : s < page.sites) (b
   was_committed x h = subst (λ (xs : List Action). Has xs x) (sym g.adds) (has_append_left b.committed g.new x h)
 
   -- what is committed was so before, or is new
-  now_committed : (x : Action) → Has after.committed x → Has b.committed x ⊎ New page s b after x
-  now_committed x h = ⊎_elim (λ k. inl k) (λ k. inr (all-has (New page s b after) g.new x g.each k)) (has_append_cases b.committed g.new x (subst (λ (xs : List Action). Has xs x) g.adds h))
+  now_committed : (x : Action) → Has after.committed x → Has b.committed x ⊎ New group s b after x
+  now_committed x h = ⊎_elim (λ k. inl k) (λ k. inr (all-has (New group s b after) g.new x g.each k)) (has_append_cases b.committed g.new x (subst (λ (xs : List Action). Has xs x) g.adds h))
 
   -- a new action is later than what any site had of this one's
-  beyond_old : (x : Action) → New page s b after x → (z a t : ℕ) → z < page.sites → a < page.articles → t ≤ b.reach z a s → x.time ≤ t → ⊥
-  beyond_old x n z a t zl al le within = let later = n.later in omega (arith, greatest_ge page b s a s al of_group, l.no_more z a s zl al of_group)
+  beyond_old : (x : Action) → New group s b after x → (z a t : ℕ) → z < group.sites → a < group.articles → t ≤ b.reach z a s → x.time ≤ t → ⊥
+  beyond_old x n z a t zl al le within = let later = n.later in omega (arith, greatest_ge group b s a s al of_group, l.no_more z a s zl al of_group)
 
   -- THE BOOK
 
-  all_apart : (x y : Action) → Recorded page b x → New page s b after y → Apart x y
+  all_apart : (x y : Action) → Recorded group b x → New group s b after y → Apart x y
   all_apart x y old new same-coordinator same-time =
       let is : x.coordinator ≡ s = same-coordinator ∙ new.own in
       let had : x.time ≤ b.reach s x.article s = subst (λ (n : ℕ). x.time ≤ b.reach n x.article n) is old.had in
       let later = new.later in
-      omega (arith, greatest_ge page b s x.article s old.listed of_group)
+      omega (arith, greatest_ge group b s x.article s old.listed of_group)
 
-  still_recorded : (x : Action) → Recorded page b x → Recorded page after x
+  still_recorded : (x : Action) → Recorded group b x → Recorded group after x
   still_recorded x h = record { coordinated = h.coordinated; listed = h.listed; had = let had = h.had in omega (arith, reach_grows x.coordinator x.article x.coordinator) }
 
-  newly_recorded : (x : Action) → New page s b after x → Recorded page after x
+  newly_recorded : (x : Action) → New group s b after x → Recorded group after x
   newly_recorded x h = record {
-    coordinated = subst (λ (n : ℕ). n < page.sites) (sym h.own) of_group;
+    coordinated = subst (λ (n : ℕ). n < group.sites) (sym h.own) of_group;
     listed = h.listed;
     had = subst (λ (n : ℕ). x.time ≤ after.reach n x.article n) (sym h.own) h.had;
   }
 
-  pub ledger_after : Ledger page after
-  ledger_after = record {
-    distinct = subst Distinct (sym g.adds) (distinct_append b.committed g.new l.distinct g.apart (All-weaker (Recorded page b) (λ x. AllByRecursion (Apart x) g.new) (λ x old. All-weaker (New page s b after) (Apart x) (λ y new. all_apart x y old new) g.new g.each) b.committed l.each));
-    each = subst (AllByRecursion (Recorded page after)) (sym g.adds) (All-append (Recorded page after) b.committed g.new (All-weaker (Recorded page b) (Recorded page after) still_recorded b.committed l.each) (All-weaker (New page s b after) (Recorded page after) newly_recorded g.new g.each));
+  pub account_after : Account group after
+  account_after = record {
+    distinct = subst Distinct (sym g.adds) (distinct_append b.committed g.new l.distinct g.apart (All-weaker (Recorded group b) (λ x. AllByRecursion (Apart x) g.new) (λ x old. All-weaker (New group s b after) (Apart x) (λ y new. all_apart x y old new) g.new g.each) b.committed l.each));
+    each = subst (AllByRecursion (Recorded group after)) (sym g.adds) (All-append (Recorded group after) b.committed g.new (All-weaker (Recorded group b) (Recorded group after) still_recorded b.committed l.each) (All-weaker (New group s b after) (Recorded group after) newly_recorded g.new g.each));
     no_more = λ z a q zl al ql.
         ⊎_elim
         (λ same. subst (λ (n : ℕ). after.reach n a q ≤ after.reach q a q) (sym same) (g.no_more a q al ql))
@@ -92,8 +92,8 @@ module _ (kind : Meaning) (page : Page) (s : ℕ) (of_group : s < page.sites) (b
 
   -- ANOTHER SITE
 
-  module _ (z : ℕ) (zl : z < page.sites) (ne : z ≡ s → ⊥) (v : View) where
-    other_gathered : (a : ℕ) → a < page.articles → Gathered kind page b z v a → Gathered kind page after z v a
+  module _ (z : ℕ) (zl : z < group.sites) (ne : z ≡ s → ⊥) (v : View) where
+    other_gathered : (a : ℕ) → a < group.articles → Gathered kind group b z v a → Gathered kind group after z v a
     other_gathered a al h = record {
       archived = h.archived;
       based = h.based;
@@ -109,12 +109,12 @@ module _ (kind : Meaning) (page : Page) (s : ℕ) (of_group : s < page.sites) (b
       everywhere = h.everywhere;
     }
 
-    pub other_site : Site kind page b z v → Site kind page after z v
+    pub other_site : Site kind group b z v → Site kind group after z v
     other_site h = record {
       sound = h.sound;
       setup_is = h.setup_is;
       vector = λ a q al ql. h.vector a q al ql ∙ sym (other_reach z a q ne);
-      clock_is = h.clock_is ∙ sym (ap (λ (r : ℕ → ℕ → ℕ). greatest_of (map (λ a. greatest_of (map (r a) (range_with_len 0 page.sites))) (range_with_len 0 page.articles))) (g.others z ne));
+      clock_is = h.clock_is ∙ sym (ap (λ (r : ℕ → ℕ → ℕ). greatest_of (map (λ a. greatest_of (map (r a) (range_with_len 0 group.sites))) (range_with_len 0 group.articles))) (g.others z ne));
       pending_is = g.others_pending z ne ∙ h.pending_is;
       believed = λ a y q al yl ql. let old = h.believed a y q al yl ql in omega (arith, reach_grows y a q);
       gathered = λ a al. other_gathered a al (h.gathered a al);
@@ -122,19 +122,19 @@ module _ (kind : Meaning) (page : Page) (s : ℕ) (of_group : s < page.sites) (b
 
   -- MESSAGES
 
-  module _ (bytes : List ℕ) (m : Message) (sent : Sent kind page bytes m) where
+  module _ (bytes : List ℕ) (m : Message) (sent : Sent kind group bytes m) where
     -- each interval is of the group
     abbrev Listed : ℕ × Interval → Type 0
-    Listed h = (h.0 < page.articles) × (h.1.site < page.sites)
+    Listed h = (h.0 < group.articles) × (h.1.site < group.sites)
 
     listed : AllByRecursion Listed (stretches m)
     listed =
-        let setup = page.setup s in
-        let of = page.of_page s of_group in
+        let setup = group.setup s in
+        let of = group.agrees s of_group in
         All-weaker _ Listed (λ h k. (subst (λ (n : ℕ). h.0 < n) of.articles_are k.0, subst (λ (n : ℕ). h.1.site < n) of.sites_are k.1.of_group)) (stretches m) (stretches_lawful kind setup m (sent.lawful s of_group))
 
-    sender_lt : m.sender < page.sites
-    sender_lt = subst (λ (n : ℕ). m.sender < n) (page.of_page s of_group).sites_are (sent.lawful s of_group).sent
+    sender_lt : m.sender < group.sites
+    sender_lt = subst (λ (n : ℕ). m.sender < n) (group.agrees s of_group).sites_are (sent.lawful s of_group).sent
 
     still_true : Truthful b m → Truthful after m
     still_true t = record {
@@ -150,16 +150,16 @@ module _ (kind : Meaning) (page : Page) (s : ℕ) (of_group : s < page.sites) (b
       sure = All-weaker (Has b.committed) (Has after.committed) was_committed (carried m) t.sure;
     }
 
-  pub still_told : (bytes : List ℕ) → Told kind page b bytes → Told kind page after bytes
+  pub still_told : (bytes : List ℕ) → Told kind group b bytes → Told kind group after bytes
   still_told bytes = ⊎_elim (λ none. inl none) (λ h. inr (h.0, h.1, still_true bytes h.0 h.1 h.2))
 
 -- WHAT WAS TAKEN
 
-module _ (kind : Meaning) (page : Page) (s : ℕ) (v w : View) (kept : (a z q : ℕ) → entry v a z q ≤ entry w a z q) where
+module _ (kind : Meaning) (group : Group) (s : ℕ) (v w : View) (kept : (a z q : ℕ) → entry v a z q ≤ entry w a z q) where
   credits_still : (z : ℕ) (m : Message) → Credits v z m → Credits w z m
   credits_still z m c = All-weaker (λ h. h.1.to ≤ entry v h.0 z h.1.site) (λ h. h.1.to ≤ entry w h.0 z h.1.site) (λ h k. omega (arith, k, kept h.0 z h.1.site)) (stretches m) c
 
-  pub absorbed_still : (call : Call) → Absorbed kind page s v call → Absorbed kind page s w call
+  pub absorbed_still : (call : Call) → Absorbed kind group s v call → Absorbed kind group s w call
   absorbed_still (Opens r) h = tt
   absorbed_still (Writes t article operation amount r) h = tt
   absorbed_still (Commits t buffer r after) h = tt
@@ -171,33 +171,33 @@ module _ (kind : Meaning) (page : Page) (s : ℕ) (v w : View) (kept : (a z q : 
 
 -- ALL SITES
 
-module _ (kind : Meaning) (page : Page) (before : List Line) (line : Line) (old views : ℕ → View) (turn : Turn kind page before line old views) (st : Standing kind page before old) where
+module _ (kind : Meaning) (group : Group) (before : List Event) (event : Event) (old views : ℕ → View) (turn : Turn kind group before event old views) (st : Standing kind group before old) where
   abbrev s : ℕ
-  s = line.site
+  s = event.site
 
-  -- the line's site is to be shown to stand, and no entry of it to be lowered
-  pub stands_after : Grown page s (book page before) (book page (line ∷ before)) → Site kind page (book page (line ∷ before)) s (views s) → ((a z q : ℕ) → entry (old s) a z q ≤ entry (views s) a z q) → Told kind page (book page (line ∷ before)) (wrote line.call) → Absorbed kind page s (views s) line.call → Standing kind page (line ∷ before) views
+  -- the event's site is to be shown to stand, and no entry of it to be lowered
+  pub stands_after : Grown group s (book group before) (book group (event ∷ before)) → Site kind group (book group (event ∷ before)) s (views s) → ((a z q : ℕ) → entry (old s) a z q ≤ entry (views s) a z q) → Told kind group (book group (event ∷ before)) (wrote event.call) → Absorbed kind group s (views s) event.call → Standing kind group (event ∷ before) views
   stands_after g site kept told absorbed = record {
     sites = λ z zl.
         ⊎_elim
-        (λ same. subst (λ (n : ℕ). Site kind page after n (views n)) (sym same) site)
-        (λ ne. subst (Site kind page after z) (sym (turn.others z zl ne)) (other_site kind page s of_group b after g st.ledger z zl ne (old z) (st.sites z zl)))
+        (λ same. subst (λ (n : ℕ). Site kind group after n (views n)) (sym same) site)
+        (λ ne. subst (Site kind group after z) (sym (turn.others z zl ne)) (other_site kind group s of_group b after g st.account z zl ne (old z) (st.sites z zl)))
         (cases_eq z s);
-    ledger = ledger_after kind page s of_group b after g st.ledger;
-    told = (told, All-weaker (λ (l : Line). Told kind page b (wrote l.call)) (λ (l : Line). Told kind page after (wrote l.call)) (λ l. still_told kind page s of_group b after g st.ledger (wrote l.call)) before st.told);
-    absorbed = ((of_group, absorbed), All-weaker _ (λ (l : Line). (l.site < page.sites) × Absorbed kind page l.site (views l.site) l.call) (λ l h. (h.0, absorbed_still kind page l.site (old l.site) (views l.site) (keeps l.site h.0) l.call h.1)) before st.absorbed);
+    account = account_after kind group s of_group b after g st.account;
+    told = (told, All-weaker (λ (l : Event). Told kind group b (wrote l.call)) (λ (l : Event). Told kind group after (wrote l.call)) (λ l. still_told kind group s of_group b after g st.account (wrote l.call)) before st.told);
+    absorbed = ((of_group, absorbed), All-weaker _ (λ (l : Event). (l.site < group.sites) × Absorbed kind group l.site (views l.site) l.call) (λ l h. (h.0, absorbed_still kind group l.site (old l.site) (views l.site) (keeps l.site h.0) l.call h.1)) before st.absorbed);
   }
     where
       b : Book
-      b = book page before
+      b = book group before
 
       after : Book
-      after = book page (line ∷ before)
+      after = book group (event ∷ before)
 
-      of_group : s < page.sites
+      of_group : s < group.sites
       of_group = turn.of_group
 
-      keeps : (z : ℕ) → z < page.sites → (a y q : ℕ) → entry (old z) a y q ≤ entry (views z) a y q
+      keeps : (z : ℕ) → z < group.sites → (a y q : ℕ) → entry (old z) a y q ≤ entry (views z) a y q
       keeps z zl a y q =
           ⊎_elim
           (λ same. subst (λ (n : ℕ). entry (old n) a y q ≤ entry (views n) a y q) (sym same) (kept a y q))

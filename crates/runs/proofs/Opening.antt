@@ -1,4 +1,4 @@
--- Lines that leave the book or change an open transaction only: what is refused, open, write and abandon.
+-- Events that leave the book or change an open transaction only: what is refused, open, write and abandon.
 -- Assumes nothing.
 use Rattle.std.proofs.Common.{◌≡◌, ℕ, ◌+◌, ◌<◌, Bool, true, false, eqb, List, [], ◌∷◌, ◌++◌, length, ℤ, Ok, Err, Result, sym, refl, ap, ◌∙◌, subst, inl, arith}
 use Rattle.std.proofs.lemmas.List.{append-nil}
@@ -12,23 +12,19 @@ use Rattle.table.specs.Transactions.{new_action, with_transaction}
 use Rattle.table.specs.View.{View, entry}
 use Rattle.table.proofs.Soundness.{abandon_keeps, open_keeps, write_keeps}
 use Rattle.runs.specs.Books.{Book, book, greatest, next_action, with_pending}
-use Rattle.runs.specs.Lines.{Call, Line, wrote}
-use Rattle.runs.specs.Lines.Call.{Opens, Writes, Abandons}
-use Rattle.runs.specs.Runs.{Page, Turn}
+use Rattle.runs.specs.Events.{Call, Event, at, wrote}
+use Rattle.runs.specs.Events.Call.{Opens, Writes, Abandons}
+use Rattle.runs.specs.Runs.{Group, Turn}
 use Rattle.runs.proofs.Growing.{Grown, stands_after}
 use Rattle.runs.proofs.Sites.{own_is}
-use Rattle.runs.proofs.Standing.{Absorbed, Ledger, Site, Standing, Told}
-
--- a line of one site
-abbrev pub at : ℕ → Call → Line
-at s call = record { site = s; call = call }
+use Rattle.runs.proofs.Standing.{Absorbed, Account, Site, Standing, Told}
 
 -- the book with other open transactions
 abbrev pub with_pendings : (ℕ → List Action) → Book → Book
 with_pendings pending b = record { pending = pending; reach = b.reach; committed = b.committed }
 
-module _ (kind : Meaning) (page : Page) (s : ℕ) (of_group : s < page.sites) (b : Book) where
-  pub grown_pending : (pending : ℕ → List Action) → ((z : ℕ) → (z ≡ s → ⊥) → pending z ≡ b.pending z) → Ledger page b → Grown page s b (with_pendings pending b)
+module _ (kind : Meaning) (group : Group) (s : ℕ) (of_group : s < group.sites) (b : Book) where
+  pub grown_pending : (pending : ℕ → List Action) → ((z : ℕ) → (z ≡ s → ⊥) → pending z ≡ b.pending z) → Account group b → Grown group s b (with_pendings pending b)
   grown_pending pending others l = record {
     new = [];
     adds = sym (append-nil b.committed);
@@ -41,7 +37,7 @@ module _ (kind : Meaning) (page : Page) (s : ℕ) (of_group : s < page.sites) (b
   }
 
   -- the same table but for its transaction
-  site_pending : (pending : ℕ → List Action) (v : View) (is_open : Bool) (xs : List Action) → Site kind page b s v → Sound kind (with_transaction is_open xs v) → pending s ≡ xs → Site kind page (with_pendings pending b) s (with_transaction is_open xs v)
+  site_pending : (pending : ℕ → List Action) (v : View) (is_open : Bool) (xs : List Action) → Site kind group b s v → Sound kind (with_transaction is_open xs v) → pending s ≡ xs → Site kind group (with_pendings pending b) s (with_transaction is_open xs v)
   site_pending pending v is_open xs site sound is = record {
     sound = sound;
     setup_is = site.setup_is;
@@ -59,31 +55,31 @@ module _ (kind : Meaning) (page : Page) (s : ℕ) (of_group : s < page.sites) (b
     };
   }
 
-module _ (kind : Meaning) (page : Page) (before : List Line) (s : ℕ) (old views : ℕ → View) (st : Standing kind page before old) where
+module _ (kind : Meaning) (group : Group) (before : List Event) (s : ℕ) (old views : ℕ → View) (st : Standing kind group before old) where
   abbrev b : Book
-  b = book page before
+  b = book group before
 
   -- THE BOOK AND THE TABLES STAY
 
-  pub stands_still : (call : Call) → Turn kind page before (at s call) old views → book page (at s call ∷ before) ≡ b → views s ≡ old s → Told kind page b (wrote call) → Absorbed kind page s (views s) call → Standing kind page (at s call ∷ before) views
+  pub stands_still : (call : Call) → Turn kind group before (at s call) old views → book group (at s call ∷ before) ≡ b → views s ≡ old s → Told kind group b (wrote call) → Absorbed kind group s (views s) call → Standing kind group (at s call ∷ before) views
   stands_still call turn same-book same_view told absorbed =
       let of_group = turn.of_group in
-      stands_after kind page before (at s call) old views turn st
-      (subst (Grown page s b) (sym same-book) (grown_pending kind page s of_group b b.pending (λ z ne. refl) st.ledger))
-      (subst (λ (after : Book). Site kind page after s (views s)) (sym same-book) (subst (Site kind page b s) (sym same_view) (st.sites s of_group)))
+      stands_after kind group before (at s call) old views turn st
+      (subst (Grown group s b) (sym same-book) (grown_pending kind group s of_group b b.pending (λ z ne. refl) st.account))
+      (subst (λ (after : Book). Site kind group after s (views s)) (sym same-book) (subst (Site kind group b s) (sym same_view) (st.sites s of_group)))
       (λ a z q. omega (arith, ap (λ (v : View). entry v a z q) same_view))
-      (subst (λ (after : Book). Told kind page after (wrote call)) (sym same-book) told)
+      (subst (λ (after : Book). Told kind group after (wrote call)) (sym same-book) told)
       absorbed
 
   -- THE TRANSACTION CHANGES
 
-  module _ (call : Call) (turn : Turn kind page before (at s call) old views) (pending : ℕ → List Action) (is_open : Bool) (xs : List Action) where
-    stands_pending : book page (at s call ∷ before) ≡ with_pendings pending b → views s ≡ with_transaction is_open xs (old s) → Sound kind (views s) → pending s ≡ xs → ((z : ℕ) → (z ≡ s → ⊥) → pending z ≡ b.pending z) → wrote call ≡ [] → Absorbed kind page s (views s) call → Standing kind page (at s call ∷ before) views
+  module _ (call : Call) (turn : Turn kind group before (at s call) old views) (pending : ℕ → List Action) (is_open : Bool) (xs : List Action) where
+    stands_pending : book group (at s call ∷ before) ≡ with_pendings pending b → views s ≡ with_transaction is_open xs (old s) → Sound kind (views s) → pending s ≡ xs → ((z : ℕ) → (z ≡ s → ⊥) → pending z ≡ b.pending z) → wrote call ≡ [] → Absorbed kind group s (views s) call → Standing kind group (at s call ∷ before) views
     stands_pending the-book the_view sound is others none absorbed =
         let of_group = turn.of_group in
-        stands_after kind page before (at s call) old views turn st
-        (subst (Grown page s b) (sym the-book) (grown_pending kind page s of_group b pending others st.ledger))
-        (subst (λ (after : Book). Site kind page after s (views s)) (sym the-book) (subst (Site kind page (with_pendings pending b) s) (sym the_view) (site_pending kind page s of_group b pending (old s) is_open xs (st.sites s of_group) (subst (Sound kind) the_view sound) is)))
+        stands_after kind group before (at s call) old views turn st
+        (subst (Grown group s b) (sym the-book) (grown_pending kind group s of_group b pending others st.account))
+        (subst (λ (after : Book). Site kind group after s (views s)) (sym the-book) (subst (Site kind group (with_pendings pending b) s) (sym the_view) (site_pending kind group s of_group b pending (old s) is_open xs (st.sites s of_group) (subst (Sound kind) the_view sound) is)))
         (λ a z q. omega (arith, ap (λ (v : View). entry v a z q) the_view))
         (inl none)
         absorbed
@@ -95,32 +91,32 @@ module _ (kind : Meaning) (page : Page) (before : List Line) (s : ℕ) (old view
   other_pending : (xs : List Action) (z : ℕ) → (z ≡ s → ⊥) → (with_pending s xs b).pending z ≡ b.pending z
   other_pending xs z ne = cond-false (eqb z s) xs (b.pending z) (ne_eqb z s ne)
 
-  pub open_stands : (r : Result Ticket TableFault) → Turn kind page before (at s (Opens r)) old views → Standing kind page (at s (Opens r) ∷ before) views
+  pub open_stands : (r : Result Ticket TableFault) → Turn kind group before (at s (Opens r)) old views → Standing kind group (at s (Opens r) ∷ before) views
   open_stands (Err e) turn = stands_still (Opens (Err e)) turn refl turn.does.1 (inl refl) tt
   open_stands (Ok t) turn =
       let site = st.sites s turn.of_group in
       stands_pending (Opens (Ok t)) turn b.pending true (old s).pending refl turn.does.2 (open_keeps kind (old s) (views s) site.sound (Ok t) turn.does) site.pending_is (λ z ne. refl) refl tt
 
-  pub abandon_stands : (t : Ticket) (r : Result Unit (TableFault × Ticket)) → Turn kind page before (at s (Abandons t r)) old views → Standing kind page (at s (Abandons t r) ∷ before) views
+  pub abandon_stands : (t : Ticket) (r : Result Unit (TableFault × Ticket)) → Turn kind group before (at s (Abandons t r)) old views → Standing kind group (at s (Abandons t r) ∷ before) views
   abandon_stands t (Err e) turn = stands_still (Abandons t (Err e)) turn refl turn.does.2 (inl refl) tt
   abandon_stands t (Ok u) turn =
       let site = st.sites s turn.of_group in
       stands_pending (Abandons t (Ok u)) turn (with_pending s [] b).pending false [] refl turn.does.1 (abandon_keeps kind (old s) (views s) site.sound t (Ok u) turn.does) (own_pending []) (other_pending []) refl tt
 
   -- the book reckons the time as the table does
-  same_action : (of_group : s < page.sites) (article operation : ℕ) (amount : ℤ) → next_action page b s article operation amount ≡ new_action (old s) article operation amount
+  same_action : (of_group : s < group.sites) (article operation : ℕ) (amount : ℤ) → next_action group b s article operation amount ≡ new_action (old s) article operation amount
   same_action of_group article operation amount =
       let site = st.sites s of_group in
       let f : ℕ → ℕ → ℕ → Action = λ c t n. record { coordinator = c; time = t; transaction = n; article = article; operation = operation; amount = amount } in
-      let own : s ≡ (old s).setup.own = sym (own_is kind page b s of_group (old s) site) in
-      let clock : greatest page b s ≡ (old s).clock = sym site.clock_is in
+      let own : s ≡ (old s).setup.own = sym (own_is kind group b s of_group (old s) site) in
+      let clock : greatest group b s ≡ (old s).clock = sym site.clock_is in
       λ i. f (own i) (clock i + length (site.pending_is i) + 1) (clock i + 1)
 
-  pub write_stands : (t : Ticket) (article operation : ℕ) (amount : ℤ) (r : Result ℕ TableFault) → Turn kind page before (at s (Writes t article operation amount r)) old views → Standing kind page (at s (Writes t article operation amount r) ∷ before) views
+  pub write_stands : (t : Ticket) (article operation : ℕ) (amount : ℤ) (r : Result ℕ TableFault) → Turn kind group before (at s (Writes t article operation amount r)) old views → Standing kind group (at s (Writes t article operation amount r) ∷ before) views
   write_stands t article operation amount (Err e) turn = stands_still (Writes t article operation amount (Err e)) turn refl turn.does.2.1 (inl refl) tt
   write_stands t article operation amount (Ok time) turn =
       let site = st.sites s turn.of_group in
-      let xs = b.pending s ++ next_action page b s article operation amount ∷ [] in
+      let xs = b.pending s ++ next_action group b s article operation amount ∷ [] in
       let ys = (old s).pending ++ new_action (old s) article operation amount ∷ [] in
       let same : xs ≡ ys = (λ i. site.pending_is i ++ same_action turn.of_group article operation amount i ∷ []) in
       stands_pending (Writes t article operation amount (Ok time)) turn (with_pending s xs b).pending (old s).is_open ys refl turn.does.2.2 (write_keeps kind (old s) (views s) site.sound t article operation amount turn.does.0 turn.does.1 (Ok time) turn.does.2) (own_pending xs ∙ same) (other_pending xs) refl tt

@@ -21,10 +21,10 @@ use Rattle.table.specs.View.{View, entry, row}
 use Rattle.row.specs.Entries.{at, each_row, raised}
 use Rattle.table.proofs.Greatest.{greatest_from, greatest_le}
 use Rattle.row.proofs.RowLaws.{by_rows, raised_within}
+use Rattle.runs.specs.Events.{Event}
+use Rattle.runs.specs.Events.Call.{Takes}
 use Rattle.runs.specs.Laws.{RepeatsChangeNothing}
-use Rattle.runs.specs.Lines.{Line}
-use Rattle.runs.specs.Lines.Call.{Takes}
-use Rattle.runs.specs.Runs.{Page}
+use Rattle.runs.specs.Runs.{Group}
 use Rattle.runs.proofs.Sites.{own_is}
 use Rattle.runs.proofs.Standing.{Absorbed, Credits, Standing}
 
@@ -97,16 +97,16 @@ module _ (kind : Meaning) (v : View) (sound : Sound kind v) (m : Message) (lawfu
 
 -- THE LAW
 
-module _ (kind : Meaning) (small : kind.number ≤ 255) (page : Page) (lines : List Line) (views : ℕ → View) (st : Standing kind page lines views) where
-  pub repeats : RepeatsChangeNothing kind page lines views
+module _ (kind : Meaning) (small : kind.number ≤ 255) (group : Group) (events : List Event) (views : ℕ → View) (st : Standing kind group events views) where
+  pub repeats : RepeatsChangeNothing kind group events views
   repeats s bytes before had (Err e) w took = (took.1, λ n is. let z : ◌≡◌ {A = ℕ} 0 1 = cc in absurd (omega arith))
   repeats s bytes before had (Ok n) w (shut, (m, lawful, is, passes, count, left)) =
-      let now = all-has (λ (line : Line). (line.site < page.sites) × Absorbed kind page line.site (views line.site) line.call) lines (record { site = s; call = Takes bytes (Ok before) }) st.absorbed had in
+      let now = all-has (λ (event : Event). (event.site < group.sites) × Absorbed kind group event.site (views event.site) event.call) events (record { site = s; call = Takes bytes (Ok before) }) st.absorbed had in
       let v : View = views s in
       let site = st.sites s now.0 in
       let known : Message = now.1.0 in
       let lawful-here : LawfulMessage kind v.setup known = subst (λ (u : Setup). LawfulMessage kind u known) (sym site.setup_is) (now.1.1.lawful s now.0) in
       let same : known ≡ m = messages_unique kind v.setup small bytes known m lawful-here lawful now.1.1.is is in
-      let here : Credits v v.setup.own m = subst (λ (k : Message). Credits v v.setup.own k) same (subst (λ (z : ℕ). Credits v z known) (sym (own_is kind page _ s now.0 v site)) now.1.2) in
+      let here : Credits v v.setup.own m = subst (λ (k : Message). Credits v v.setup.own k) same (subst (λ (z : ℕ). Credits v z known) (sym (own_is kind group _ s now.0 v site)) now.1.2) in
       let there : Credits v m.sender m = subst (λ (k : Message). Credits v k.sender k) same now.1.3 in
       (left ∙ taken_again kind v site.sound m lawful here there, λ k e. let none = nothing_new kind v site.sound m lawful here there in let same_count : n ≡ k = cc in omega (arith, same_count, count, ap length none))

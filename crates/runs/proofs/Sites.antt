@@ -1,4 +1,4 @@
--- A site that stands: its set-up is the page's, its own row is the book's, and what is lawful there is lawful at
+-- A site that stands: its set-up is the group's, its own row is the book's, and what is lawful there is lawful at
 -- every site. Assumes nothing.
 use Rattle.std.proofs.Common.{◌≡◌, ℕ, ◌<◌, ◌≤◌, sym, ap, ◌∙◌, arith}
 use Rattle.std.proofs.ByRecursion.{all-has, All-weaker}
@@ -10,9 +10,9 @@ use Rattle.message.specs.Format.{Message, Section}
 use Rattle.message.specs.Lawful.{LawfulInterval, LawfulMessage, LawfulSection}
 use Rattle.table.specs.View.{View, entry}
 use Rattle.runs.specs.Books.{Book}
-use Rattle.runs.specs.Runs.{Page}
+use Rattle.runs.specs.Runs.{Group}
 use Rattle.runs.proofs.Greatest.{greatest_ge}
-use Rattle.runs.proofs.Standing.{Ledger, Reached, Recorded, Site}
+use Rattle.runs.proofs.Standing.{Account, Reached, Recorded, Site}
 
 -- LAWFUL FOR ONE SET-UP AND ANOTHER OF THE SAME GROUP
 
@@ -45,37 +45,37 @@ module _ (kind : Meaning) (u w : Setup) (groups : u.group ≡ w.group) (sites : 
 
 -- THE SITE
 
-module _ (kind : Meaning) (page : Page) (b : Book) (s : ℕ) (of_group : s < page.sites) (v : View) (site : Site kind page b s v) where
+module _ (kind : Meaning) (group : Group) (b : Book) (s : ℕ) (of_group : s < group.sites) (v : View) (site : Site kind group b s v) where
   abbrev setup : Setup
   setup = v.setup
 
-  pub group_is : setup.group ≡ page.group
-  group_is = ap (λ (u : Setup). u.group) site.setup_is ∙ (page.of_page s of_group).group_is
+  pub group_is : setup.group ≡ group.number
+  group_is = ap (λ (u : Setup). u.group) site.setup_is ∙ (group.agrees s of_group).group_is
 
-  pub sites_are : setup.sites ≡ page.sites
-  sites_are = ap (λ (u : Setup). u.sites) site.setup_is ∙ (page.of_page s of_group).sites_are
+  pub sites_are : setup.sites ≡ group.sites
+  sites_are = ap (λ (u : Setup). u.sites) site.setup_is ∙ (group.agrees s of_group).sites_are
 
-  pub articles_are : setup.articles ≡ page.articles
-  articles_are = ap (λ (u : Setup). u.articles) site.setup_is ∙ (page.of_page s of_group).articles_are
+  pub articles_are : setup.articles ≡ group.articles
+  articles_are = ap (λ (u : Setup). u.articles) site.setup_is ∙ (group.agrees s of_group).articles_are
 
   pub own_is : setup.own ≡ s
-  own_is = ap (λ (u : Setup). u.own) site.setup_is ∙ (page.of_page s of_group).own_is
+  own_is = ap (λ (u : Setup). u.own) site.setup_is ∙ (group.agrees s of_group).own_is
 
-  pub few_articles : page.articles ≤ 64
+  pub few_articles : group.articles ≤ 64
   few_articles = omega (arith, articles_are, setup.few_articles)
 
-  pub own_entry : (a q : ℕ) → a < page.articles → q < page.sites → entry v a setup.own q ≡ b.reach s a q
+  pub own_entry : (a q : ℕ) → a < group.articles → q < group.sites → entry v a setup.own q ≡ b.reach s a q
   own_entry a q al ql = ap (λ (n : ℕ). entry v a n q) own_is ∙ site.vector a q al ql
 
   -- no time reached is after the clock
-  pub reach_clocked : (a q : ℕ) → a < page.articles → q < page.sites → b.reach s a q ≤ v.clock
-  reach_clocked a q al ql = omega (arith, greatest_ge page b s a q al ql, site.clock_is)
+  pub reach_clocked : (a q : ℕ) → a < group.articles → q < group.sites → b.reach s a q ≤ v.clock
+  reach_clocked a q al ql = omega (arith, greatest_ge group b s a q al ql, site.clock_is)
 
   -- nor is any action that the site has
-  pub reached_clocked : Ledger page b → (a : ℕ) → a < page.articles → (x : Action) → Reached b s a x → x.time ≤ v.clock
-  reached_clocked l a al x h = omega (arith, h.2, reach_clocked a x.coordinator al (all-has (Recorded page b) b.committed x l.each h.0).coordinated)
+  pub reached_clocked : Account group b → (a : ℕ) → a < group.articles → (x : Action) → Reached b s a x → x.time ≤ v.clock
+  reached_clocked l a al x h = omega (arith, h.2, reach_clocked a x.coordinator al (all-has (Recorded group b) b.committed x l.each h.0).coordinated)
 
-  pub lawful_anywhere : (m : Message) → LawfulMessage kind setup m → (z : ℕ) → z < page.sites → LawfulMessage kind (page.setup z) m
+  pub lawful_anywhere : (m : Message) → LawfulMessage kind setup m → (z : ℕ) → z < group.sites → LawfulMessage kind (group.setup z) m
   lawful_anywhere m h z zl =
-      let there = page.of_page z zl in
-      lawful_message kind setup (page.setup z) (group_is ∙ sym there.group_is) (sites_are ∙ sym there.sites_are) (articles_are ∙ sym there.articles_are) m h
+      let there = group.agrees z zl in
+      lawful_message kind setup (group.setup z) (group_is ∙ sym there.group_is) (sites_are ∙ sym there.sites_are) (articles_are ∙ sym there.articles_are) m h

@@ -1,4 +1,4 @@
--- What holds after every line of a run. Assumes nothing.
+-- What holds after every event of a run. Assumes nothing.
 use Rattle.std.proofs.Common.{◌≡◌, ℕ, ◌<◌, ◌≤◌, ◌⊎◌, List, [], ◌++◌, Ok, Err}
 use Rattle.std.specs.List.{ContainsAt as Has, AllByRecursion}
 use Rattle.action.specs.declared.orders.Action.{Action}
@@ -10,9 +10,9 @@ use Rattle.message.specs.Lawful.{LawfulMessage}
 use Rattle.table.specs.Sound.{Sound}
 use Rattle.table.specs.View.{View, entry, row}
 use Rattle.runs.specs.Books.{Book, book, greatest}
-use Rattle.runs.specs.Lines.{Call, Line, wrote}
-use Rattle.runs.specs.Lines.Call.{Opens, Writes, Commits, Abandons, Offers, Takes, Archives}
-use Rattle.runs.specs.Runs.{Page}
+use Rattle.runs.specs.Events.{Call, Event, wrote}
+use Rattle.runs.specs.Events.Call.{Opens, Writes, Commits, Abandons, Offers, Takes, Archives}
+use Rattle.runs.specs.Runs.{Group}
 
 -- THE BOOK
 
@@ -21,45 +21,45 @@ abbrev pub Reached : Book → ℕ → ℕ → Action → Type 0
 Reached b s a x = Has b.committed x × (x.article ≡ a) × (x.time ≤ b.reach s a x.coordinator)
 
 -- what holds of each committed action: its coordinator has it
-pub record Recorded (page : Page) (b : Book) (x : Action) : Type 0 where
-  pub coordinated : x.coordinator < page.sites
-  pub listed : x.article < page.articles
+pub record Recorded (group : Group) (b : Book) (x : Action) : Type 0 where
+  pub coordinated : x.coordinator < group.sites
+  pub listed : x.article < group.articles
   pub had : x.time ≤ b.reach x.coordinator x.article x.coordinator
 
 -- the committed actions are apart, and no site has more of another's actions than the other
-pub record Ledger (page : Page) (b : Book) : Type 0 where
+pub record Account (group : Group) (b : Book) : Type 0 where
   pub distinct : Distinct b.committed
-  pub each : AllByRecursion (Recorded page b) b.committed
-  pub no_more : (s a q : ℕ) → s < page.sites → a < page.articles → q < page.sites → b.reach s a q ≤ b.reach q a q
+  pub each : AllByRecursion (Recorded group b) b.committed
+  pub no_more : (s a q : ℕ) → s < group.sites → a < group.articles → q < group.sites → b.reach s a q ≤ b.reach q a q
 
 -- ONE SITE
 
 -- of an article a site has what it has archived, and after that, in order, what its history holds
-pub record Gathered (kind : Meaning) (page : Page) (b : Book) (s : ℕ) (v : View) (a : ℕ) : Type 0 where
+pub record Gathered (kind : Meaning) (group : Group) (b : Book) (s : ℕ) (v : View) (a : ℕ) : Type 0 where
   pub archived : List Action
   pub based : (row v a).base ≡ working kind.steps kind.starts archived
   pub ordered : Ascending (archived ++ on a v.history)
   pub sure : (x : Action) → Has (archived ++ on a v.history) x → Reached b s a x
   pub whole : (x : Action) → Reached b s a x → Has (archived ++ on a v.history) x
   -- what was archived is known to be everywhere
-  pub everywhere : AllByRecursion (λ x. (z q : ℕ) → z < page.sites → q < page.sites → x.time ≤ entry v a z q) archived
+  pub everywhere : AllByRecursion (λ x. (z q : ℕ) → z < group.sites → q < group.sites → x.time ≤ entry v a z q) archived
 
 -- the site's table is sound, and says what the book says; it believes nothing that is not so
-pub record Site (kind : Meaning) (page : Page) (b : Book) (s : ℕ) (v : View) : Type 0 where
+pub record Site (kind : Meaning) (group : Group) (b : Book) (s : ℕ) (v : View) : Type 0 where
   pub sound : Sound kind v
-  pub setup_is : v.setup ≡ page.setup s
-  pub vector : (a q : ℕ) → a < page.articles → q < page.sites → entry v a s q ≡ b.reach s a q
-  pub clock_is : v.clock ≡ greatest page b s
+  pub setup_is : v.setup ≡ group.setup s
+  pub vector : (a q : ℕ) → a < group.articles → q < group.sites → entry v a s q ≡ b.reach s a q
+  pub clock_is : v.clock ≡ greatest group b s
   pub pending_is : b.pending s ≡ v.pending
-  pub believed : (a z q : ℕ) → a < page.articles → z < page.sites → q < page.sites → entry v a z q ≤ b.reach z a q
-  pub gathered : (a : ℕ) → a < page.articles → Gathered kind page b s v a
+  pub believed : (a z q : ℕ) → a < group.articles → z < group.sites → q < group.sites → entry v a z q ≤ b.reach z a q
+  pub gathered : (a : ℕ) → a < group.articles → Gathered kind group b s v a
 
 -- MESSAGES
 
 -- the bytes are this message, which every site may read
-pub record Sent (kind : Meaning) (page : Page) (bytes : List ℕ) (m : Message) : Type 0 where
+pub record Sent (kind : Meaning) (group : Group) (bytes : List ℕ) (m : Message) : Type 0 where
   pub is : bytes ≡ format m
-  pub lawful : (s : ℕ) → s < page.sites → LawfulMessage kind (page.setup s) m
+  pub lawful : (s : ℕ) → s < group.sites → LawfulMessage kind (group.setup s) m
 
 -- its sender has what its intervals say, and it carries just the committed actions in them
 pub record Truthful (b : Book) (m : Message) : Type 0 where
@@ -67,29 +67,29 @@ pub record Truthful (b : Book) (m : Message) : Type 0 where
   pub whole : AllByRecursion (λ h. (x : Action) → Has b.committed x → x.article ≡ h.0 → x.coordinator ≡ h.1.site → h.1.from < x.time → x.time ≤ h.1.to → Has (carried m) x) (stretches m)
   pub sure : AllByRecursion (Has b.committed) (carried m)
 
--- what a line wrote: nothing, or a true message
-abbrev pub Told : Meaning → Page → Book → List ℕ → Type 0
-Told kind page b bytes = (bytes ≡ []) ⊎ ((m : Message) × Sent kind page bytes m × Truthful b m)
+-- what an event wrote: nothing, or a true message
+abbrev pub Told : Meaning → Group → Book → List ℕ → Type 0
+Told kind group b bytes = (bytes ≡ []) ⊎ ((m : Message) × Sent kind group bytes m × Truthful b m)
 
 -- this table knows that site z has all that the message's intervals say
 abbrev pub Credits : View → ℕ → Message → Type 0
 Credits v z m = AllByRecursion (λ h. h.1.to ≤ entry v h.0 z h.1.site) (stretches m)
 
 -- what a site has taken, it knows to be its own and the sender's
-abbrev pub Absorbed : Meaning → Page → ℕ → View → Call → Type 0
-Absorbed kind page s v (Opens r) = Unit {0}
-Absorbed kind page s v (Writes t article operation amount r) = Unit {0}
-Absorbed kind page s v (Commits t buffer r after) = Unit {0}
-Absorbed kind page s v (Abandons t r) = Unit {0}
-Absorbed kind page s v (Offers peer article buffer r after) = Unit {0}
-Absorbed kind page s v (Takes bytes (Ok n)) = (m : Message) × Sent kind page bytes m × Credits v s m × Credits v m.sender m
-Absorbed kind page s v (Takes bytes (Err e)) = Unit {0}
-Absorbed kind page s v (Archives article r) = Unit {0}
+abbrev pub Absorbed : Meaning → Group → ℕ → View → Call → Type 0
+Absorbed kind group s v (Opens r) = Unit {0}
+Absorbed kind group s v (Writes t article operation amount r) = Unit {0}
+Absorbed kind group s v (Commits t buffer r after) = Unit {0}
+Absorbed kind group s v (Abandons t r) = Unit {0}
+Absorbed kind group s v (Offers peer article buffer r after) = Unit {0}
+Absorbed kind group s v (Takes bytes (Ok n)) = (m : Message) × Sent kind group bytes m × Credits v s m × Credits v m.sender m
+Absorbed kind group s v (Takes bytes (Err e)) = Unit {0}
+Absorbed kind group s v (Archives article r) = Unit {0}
 
 -- ALL SITES
 
-pub record Standing (kind : Meaning) (page : Page) (lines : List Line) (views : ℕ → View) : Type 0 where
-  pub sites : (s : ℕ) → s < page.sites → Site kind page (book page lines) s (views s)
-  pub ledger : Ledger page (book page lines)
-  pub told : AllByRecursion (λ line. Told kind page (book page lines) (wrote line.call)) lines
-  pub absorbed : AllByRecursion (λ line. (line.site < page.sites) × Absorbed kind page line.site (views line.site) line.call) lines
+pub record Standing (kind : Meaning) (group : Group) (events : List Event) (views : ℕ → View) : Type 0 where
+  pub sites : (s : ℕ) → s < group.sites → Site kind group (book group events) s (views s)
+  pub account : Account group (book group events)
+  pub told : AllByRecursion (λ event. Told kind group (book group events) (wrote event.call)) events
+  pub absorbed : AllByRecursion (λ event. (event.site < group.sites) × Absorbed kind group event.site (views event.site) event.call) events

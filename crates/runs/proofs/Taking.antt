@@ -1,4 +1,4 @@
--- A line that takes a message: its site reaches what the intervals say, and has what the message carries.
+-- An event that takes a message: its site reaches what the intervals say, and has what the message carries.
 -- Assumes nothing.
 use Rattle.std.proofs.Common.{◌≡◌, ℕ, ◌-◌, ◌<◌, ◌≤◌, max, true, cond, eqb, ◌⊎◌, List, [], ◌∷◌, ◌++◌, map, length, ℤ, None, Ok, Err, Result, sym, refl, ap, ◌∙◌, subst, inl, inr, ⊎_elim, arith, w64, SFits}
 use Rattle.std.specs.List.{ContainsAt as Has}
@@ -31,17 +31,17 @@ use Rattle.row.proofs.RowLaws.{by_row}
 use Rattle.table.proofs.Stretching.{highest_above, highest_ge, highest_le}
 use Rattle.table.proofs.Taken.{begun_within, news_above, take_keeps, taken_ge, taken_reaches, taken_told, taken_untold}
 use Rattle.runs.specs.Books.{Book, book, greatest, reaching, taken_times}
-use Rattle.runs.specs.Lines.{Line, wrote}
-use Rattle.runs.specs.Lines.Call.{Takes}
-use Rattle.runs.specs.Runs.{Page, Turn}
+use Rattle.runs.specs.Events.{Event, at, wrote}
+use Rattle.runs.specs.Events.Call.{Takes}
+use Rattle.runs.specs.Runs.{Group, Turn}
 use Rattle.runs.proofs.Greatest.{greatest_ge, greatest_le}
 use Rattle.runs.proofs.Growing.{Grown, stands_after}
-use Rattle.runs.proofs.Opening.{at, stands_still}
+use Rattle.runs.proofs.Opening.{stands_still}
 use Rattle.runs.proofs.Sites.{articles_are, own_entry, own_is, sites_are}
-use Rattle.runs.proofs.Standing.{Credits, Gathered, Ledger, Reached, Recorded, Sent, Site, Standing, Told, Truthful}
+use Rattle.runs.proofs.Standing.{Credits, Gathered, Account, Reached, Recorded, Sent, Site, Standing, Told, Truthful}
 
 -- the site takes this message, which is true, and reaches the times that its intervals say
-module _ (kind : Meaning) (page : Page) (s : ℕ) (b : Book) (v : View) (m : Message) (times : ℕ → ℕ → ℕ) (of_group : s < page.sites) (site : Site kind page b s v) (lawful : LawfulMessage kind v.setup m) (truthful : Truthful b m) (times-are : (a q : ℕ) → times a q ≡ highest a q (stretches m)) where
+module _ (kind : Meaning) (group : Group) (s : ℕ) (b : Book) (v : View) (m : Message) (times : ℕ → ℕ → ℕ) (of_group : s < group.sites) (site : Site kind group b s v) (lawful : LawfulMessage kind v.setup m) (truthful : Truthful b m) (times-are : (a q : ℕ) → times a q ≡ highest a q (stretches m)) where
   abbrev after : Book
   after = reaching s times b
 
@@ -56,15 +56,15 @@ module _ (kind : Meaning) (page : Page) (s : ℕ) (b : Book) (v : View) (m : Mes
   far a q = highest a q (stretches m)
 
   own_s : own ≡ s
-  own_s = own_is kind page b s of_group v site
+  own_s = own_is kind group b s of_group v site
 
-  sites : v.setup.sites ≡ page.sites
-  sites = sites_are kind page b s of_group v site
+  sites : v.setup.sites ≡ group.sites
+  sites = sites_are kind group b s of_group v site
 
   told : (a z q : ℕ) → (z ≡ own) ⊎ (z ≡ m.sender) → entry w a z q ≡ max (entry v a z q) (far a q)
   told = taken_told kind v m site.sound lawful
 
-  sender_lt : m.sender < page.sites
+  sender_lt : m.sender < group.sites
   sender_lt = omega (arith, lawful.sent, sites)
 
   -- THE BOOK
@@ -84,8 +84,8 @@ module _ (kind : Meaning) (page : Page) (s : ℕ) (b : Book) (v : View) (m : Mes
       highest_le a q (stretches m) (b.reach m.sender a q) (All-weaker (λ h. h.1.to ≤ b.reach m.sender h.0 h.1.site) (λ h. (h.0 ≡ a) → (h.1.site ≡ q) → h.1.to ≤ b.reach m.sender a q) (λ h k on_it of-it.
       subst (λ (n : ℕ). h.1.to ≤ b.reach m.sender a n) of-it (subst (λ (n : ℕ). h.1.to ≤ b.reach m.sender n h.1.site) on_it k)) (stretches m) truthful.sender_has)
 
-  pub take_grows : Ledger page b → Grown page s b after
-  take_grows ledger = record {
+  pub take_grows : Account group b → Grown group s b after
+  take_grows account = record {
     new = [];
     adds = sym (append-nil b.committed);
     each = tt;
@@ -93,35 +93,35 @@ module _ (kind : Meaning) (page : Page) (s : ℕ) (b : Book) (v : View) (m : Mes
     raised = reach_grows s;
     others = reach_other;
     others_pending = λ z ne. refl;
-    no_more = λ a q al ql. omega (arith, reach_own a q, reach_grows q a q, far_le a q, ledger.no_more s a q of_group al ql, ledger.no_more m.sender a q sender_lt al ql);
+    no_more = λ a q al ql. omega (arith, reach_own a q, reach_grows q a q, far_le a q, account.no_more s a q of_group al ql, account.no_more m.sender a q sender_lt al ql);
   }
 
   -- THE TABLE
 
-  vector : (a q : ℕ) → a < page.articles → q < page.sites → entry w a s q ≡ after.reach s a q
+  vector : (a q : ℕ) → a < group.articles → q < group.sites → entry w a s q ≡ after.reach s a q
   vector a q al ql = omega (arith, told a s q (inl (sym own_s)), reach_own a q, site.vector a q al ql)
 
   -- an interval of the message is of the group
-  interval_of_group : (h : ℕ × Interval) → Has (stretches m) h → (h.0 < page.articles) × (h.1.site < page.sites)
+  interval_of_group : (h : ℕ × Interval) → Has (stretches m) h → (h.0 < group.articles) × (h.1.site < group.sites)
   interval_of_group h k =
       let law = all-has (λ h. (h.0 < v.setup.articles) × LawfulInterval v.setup h.1) (stretches m) h (stretches_lawful kind v.setup m lawful) k in
-      (omega (arith, law.0, articles_are kind page b s of_group v site), omega (arith, law.1.of_group, sites))
+      (omega (arith, law.0, articles_are kind group b s of_group v site), omega (arith, law.1.of_group, sites))
 
-  clock_le : w.clock ≤ greatest page after s
+  clock_le : w.clock ≤ greatest group after s
   clock_le =
-      Most.greatest_le (λ (h : ℕ × Interval). h.1.to) (greatest page after s) v.clock (stretches m)
-      (omega (arith, site.clock_is, greatest_le page b s (greatest page after s) (λ a q al ql. omega (arith, greatest_ge page after s a q al ql, reach_grows s a q))))
-      (all_from_has (λ h. h.1.to ≤ greatest page after s) (stretches m) (λ h k.
+      Most.greatest_le (λ (h : ℕ × Interval). h.1.to) (greatest group after s) v.clock (stretches m)
+      (omega (arith, site.clock_is, greatest_le group b s (greatest group after s) (λ a q al ql. omega (arith, greatest_ge group after s a q al ql, reach_grows s a q))))
+      (all_from_has (λ h. h.1.to ≤ greatest group after s) (stretches m) (λ h k.
       let of = interval_of_group h k in
-      omega (arith, highest_ge h.0 h.1 (stretches m) k, reach_own h.0 h.1.site, greatest_ge page after s h.0 h.1.site of.0 of.1)))
+      omega (arith, highest_ge h.0 h.1 (stretches m) k, reach_own h.0 h.1.site, greatest_ge group after s h.0 h.1.site of.0 of.1)))
 
-  clock_ge : greatest page after s ≤ w.clock
+  clock_ge : greatest group after s ≤ w.clock
   clock_ge =
-      greatest_le page after s w.clock (λ a q al ql.
+      greatest_le group after s w.clock (λ a q al ql.
       let over : far a q ≤ w.clock = highest_le a q (stretches m) w.clock (All-weaker (λ h. h.1.to ≤ w.clock) (λ h. (h.0 ≡ a) → (h.1.site ≡ q) → h.1.to ≤ w.clock) (λ h k _ _. k) (stretches m) (Most.greatest_ge (λ (h : ℕ × Interval). h.1.to) v.clock (stretches m))) in
-      omega (arith, over, reach_own a q, greatest_ge page b s a q al ql, site.clock_is, Most.greatest_from (λ (h : ℕ × Interval). h.1.to) v.clock (stretches m)))
+      omega (arith, over, reach_own a q, greatest_ge group b s a q al ql, site.clock_is, Most.greatest_from (λ (h : ℕ × Interval). h.1.to) v.clock (stretches m)))
 
-  believed : (a z q : ℕ) → a < page.articles → z < page.sites → q < page.sites → entry w a z q ≤ after.reach z a q
+  believed : (a z q : ℕ) → a < group.articles → z < group.sites → q < group.sites → entry w a z q ≤ after.reach z a q
   believed a z q al zl ql =
       ⊎_elim
       (λ same. subst (λ (n : ℕ). entry w a n q ≤ after.reach n a q) (sym same) (omega (arith, vector a q al ql)))
@@ -138,7 +138,7 @@ module _ (kind : Meaning) (page : Page) (s : ℕ) (b : Book) (v : View) (m : Mes
 
   -- WHAT IT HAS OF AN ARTICLE
 
-  module _ (passes : take_refusal v m ≡ None) (sound : Sound kind w) (a : ℕ) (al : a < page.articles) (g : Gathered kind page b s v a) where
+  module _ (passes : take_refusal v m ≡ None) (sound : Sound kind w) (a : ℕ) (al : a < group.articles) (g : Gathered kind group b s v a) where
     -- a new action is later than what the site had of its coordinator's
     new_later : (y : Action) → Has (news v m) y → y.article ≡ a → entry v a s y.coordinator < y.time
     new_later y h on_it =
@@ -148,7 +148,7 @@ module _ (kind : Meaning) (page : Page) (s : ℕ) (b : Book) (v : View) (m : Mes
     on_it : (y : Action) → Has (on a w.history) y → Has w.history y × (y.article ≡ a)
     on_it y h = let parts = has_kept_by_parts (λ x. eqb x.article a) w.history y h in (parts.0, eqb-true y.article a parts.1)
 
-    coordinated : (y : Action) → Has w.history y → y.coordinator < page.sites
+    coordinated : (y : Action) → Has w.history y → y.coordinator < group.sites
     coordinated y h = let fits = all-has (Fitting kind v.setup) w.history y sound.fitting h in omega (arith, fits.coordinated, sites)
 
     -- an action of the history was there before, or is new
@@ -166,7 +166,7 @@ module _ (kind : Meaning) (page : Page) (s : ℕ) (b : Book) (v : View) (m : Mes
         ⊎_elim
         (λ old. leads_has x (on a v.history) y (all-has (λ x. Leads x (on a v.history)) g.archived x (ascending_parts g.archived (on a v.history) g.ordered).2 hx) old)
         (λ new.
-        let everywhere = all-has (λ x. (z q : ℕ) → z < page.sites → q < page.sites → x.time ≤ entry v a z q) g.archived x g.everywhere hx in
+        let everywhere = all-has (λ x. (z q : ℕ) → z < group.sites → q < group.sites → x.time ≤ entry v a z q) g.archived x g.everywhere hx in
         let here = on_it y hy in
         precedes_by_time x y (omega (arith, everywhere s y.coordinator of_group (coordinated y here.0), new_later y new here.1)))
         (came y hy)
@@ -193,14 +193,14 @@ module _ (kind : Meaning) (page : Page) (s : ℕ) (b : Book) (v : View) (m : Mes
             let within : x.time ≤ entry w a s x.coordinator = subst (λ (n : ℕ). x.time ≤ n) (λ i. entry w (here.1 i) (own_s i) x.coordinator) reached in
             (committed (came x k), here.1, omega (arith, within, vector a x.coordinator al (coordinated x here.0)))
 
-    whole : Ledger page b → (x : Action) → Reached after s a x → Has (g.archived ++ on a w.history) x
-    whole ledger x r = ⊎_elim new old (cases_lt (b.reach s a q) x.time)
+    whole : Account group b → (x : Action) → Reached after s a x → Has (g.archived ++ on a w.history) x
+    whole account x r = ⊎_elim new old (cases_lt (b.reach s a q) x.time)
       where
         q : ℕ
         q = x.coordinator
 
-        ql : q < page.sites
-        ql = (all-has (Recorded page b) b.committed x ledger.each r.0).coordinated
+        ql : q < group.sites
+        ql = (all-has (Recorded group b) b.committed x account.each r.0).coordinated
 
         old : x.time ≤ b.reach s a q → Has (g.archived ++ on a w.history) x
         old le =
@@ -214,31 +214,31 @@ module _ (kind : Meaning) (page : Page) (s : ℕ) (b : Book) (v : View) (m : Mes
             let up = highest_above a q (stretches m) (x.time - 1) (omega (arith, r.2, reach_own a q)) in
             let i = up.0 in
             let behind = all-has (λ h. h.1.from ≤ entry v h.0 own h.1.site) (stretches m) (a, i) (begun_within v m passes) up.1 in
-            let had : entry v a own i.site ≡ b.reach s a q = ap (entry v a own) up.2 ∙ own_entry kind page b s of_group v site a q al ql in
+            let had : entry v a own i.site ≡ b.reach s a q = ap (entry v a own) up.2 ∙ own_entry kind group b s of_group v site a q al ql in
             let from : i.from < x.time = omega (arith, behind, had) in
             let is_Carried = all-has (λ h. (x : Action) → Has b.committed x → x.article ≡ h.0 → x.coordinator ≡ h.1.site → h.1.from < x.time → x.time ≤ h.1.to → Has (carried m) x) (stretches m) (a, i) truthful.whole up.1 x r.0 r.1 (sym up.2) from (omega (arith, up.3)) in
-            let is-new : entry v x.article own q < x.time = subst (λ (c : ℕ). entry v c own q < x.time) (sym r.1) (omega (arith, own_entry kind page b s of_group v site a q al ql)) in
+            let is-new : entry v x.article own q < x.time = subst (λ (c : ℕ). entry v c own q < x.time) (sym r.1) (omega (arith, own_entry kind group b s of_group v site a q al ql)) in
             arrives x (inr (has_kept_by (is_new v) (carried m) x is_Carried (lt-ltb (entry v x.article own q) x.time is-new))) r.1
 
-    gathered : Ledger page b → Gathered kind page after s w a
-    gathered ledger = record {
+    gathered : Account group b → Gathered kind group after s w a
+    gathered account = record {
       archived = g.archived;
       based = by_row (taken_row kind v m) v.rows (λ c r. r.base ≡ (row v c).base) (λ c _. refl) (λ c _. refl) a ∙ g.based;
       ordered = ordered;
       sure = sure;
-      whole = whole ledger;
-      everywhere = All-weaker (λ x. (z q : ℕ) → z < page.sites → q < page.sites → x.time ≤ entry v a z q) (λ x. (z q : ℕ) → z < page.sites → q < page.sites → x.time ≤ entry w a z q) (λ x h z q zl ql. omega (arith, h z q zl ql, taken_ge kind v m site.sound lawful a z q)) g.archived g.everywhere;
+      whole = whole account;
+      everywhere = All-weaker (λ x. (z q : ℕ) → z < group.sites → q < group.sites → x.time ≤ entry v a z q) (λ x. (z q : ℕ) → z < group.sites → q < group.sites → x.time ≤ entry w a z q) (λ x h z q zl ql. omega (arith, h z q zl ql, taken_ge kind v m site.sound lawful a z q)) g.archived g.everywhere;
     }
 
-  pub take_site : take_refusal v m ≡ None → Sound kind w → Ledger page b → Site kind page after s w
-  take_site passes sound ledger = record {
+  pub take_site : take_refusal v m ≡ None → Sound kind w → Account group b → Site kind group after s w
+  take_site passes sound account = record {
     sound = sound;
     setup_is = site.setup_is;
     vector = vector;
     clock_is = let le = clock_le in let ge = clock_ge in omega arith;
     pending_is = site.pending_is;
     believed = believed;
-    gathered = λ a al. gathered passes sound a al (site.gathered a al) ledger;
+    gathered = λ a al. gathered passes sound a al (site.gathered a al) account;
   }
 
 -- THE LINE
@@ -249,24 +249,24 @@ times_read kind small setup m lawful bytes is a q =
     ap (λ bs. taken_times bs a q) is ∙ ap (λ rs. highest a q (intervals_of 0 rs)) (records_joined (records m) (lawful_fits kind setup small m lawful)) ∙ ap (highest a q) (stretches_of 0 m)
 
 module _ (kind : Meaning) (step_fits : (f : ℤ) (o : ℕ) (a : ℤ) → SFits w64 f → SFits w64 (kind.steps f o a)) (commute : (f : ℤ) (o : ℕ) (a : ℤ) (p : ℕ) (b : ℤ) → SFits w64 f → kind.commutes ≡ true → kind.knows o a ≡ true → kind.knows p b ≡ true → kind.steps (kind.steps f o a) p b ≡ kind.steps (kind.steps f p b) o a) (small : kind.number ≤ 255) where
-  module _ (page : Page) (before : List Line) (s : ℕ) (old views : ℕ → View) (st : Standing kind page before old) where
+  module _ (group : Group) (before : List Event) (s : ℕ) (old views : ℕ → View) (st : Standing kind group before old) where
     abbrev told_book : Book
-    told_book = book page before
+    told_book = book group before
 
-    -- bytes that a line wrote and that are a lawful message are a true one
-    true_message : (of_group : s < page.sites) (bytes : List ℕ) → Has (map (λ line. wrote line.call) before) bytes → (m : Message) → LawfulMessage kind (old s).setup m → bytes ≡ format m → Sent kind page bytes m × Truthful told_book m
+    -- bytes that an event wrote and that are a lawful message are a true one
+    true_message : (of_group : s < group.sites) (bytes : List ℕ) → Has (map (λ event. wrote event.call) before) bytes → (m : Message) → LawfulMessage kind (old s).setup m → bytes ≡ format m → Sent kind group bytes m × Truthful told_book m
     true_message of_group bytes honest m lawful is =
-        by_told (all-has (Told kind page told_book) (map (λ line. wrote line.call) before) bytes (All-map (Told kind page told_book) (λ (line : Line). wrote line.call) before st.told) honest)
+        by_told (all-has (Told kind group told_book) (map (λ event. wrote event.call) before) bytes (All-map (Told kind group told_book) (λ (event : Event). wrote event.call) before st.told) honest)
       where
-        by_told : Told kind page told_book bytes → Sent kind page bytes m × Truthful told_book m
+        by_told : Told kind group told_book bytes → Sent kind group bytes m × Truthful told_book m
         by_told (inl none) = absurd (let e = sym none ∙ is in omega (arith, ap length e))
         by_told (inr (n, sent, truthful)) =
             let there : LawfulMessage kind (old s).setup n = subst (λ (u : Setup). LawfulMessage kind u n) (sym (st.sites s of_group).setup_is) (sent.lawful s of_group) in
             let same : n ≡ m = messages_unique kind (old s).setup small bytes n m there lawful sent.is is in
-            (subst (Sent kind page bytes) same sent, subst (Truthful told_book) same truthful)
+            (subst (Sent kind group bytes) same sent, subst (Truthful told_book) same truthful)
 
-    pub take_stands : (bytes : List ℕ) (r : Result ℕ TableFault) → Turn kind page before (at s (Takes bytes r)) old views → Standing kind page (at s (Takes bytes r) ∷ before) views
-    take_stands bytes (Err e) turn = stands_still kind page before s old views st (Takes bytes (Err e)) turn refl turn.does.1 (inl refl) tt
+    pub take_stands : (bytes : List ℕ) (r : Result ℕ TableFault) → Turn kind group before (at s (Takes bytes r)) old views → Standing kind group (at s (Takes bytes r) ∷ before) views
+    take_stands bytes (Err e) turn = stands_still kind group before s old views st (Takes bytes (Err e)) turn refl turn.does.1 (inl refl) tt
     take_stands bytes (Ok n) turn =
         let of_group = turn.of_group in
         let site = st.sites s of_group in
@@ -277,10 +277,10 @@ module _ (kind : Meaning) (step_fits : (f : ℤ) (o : ℕ) (a : ℤ) → SFits w
         let both = true_message of_group bytes turn.honest m lawful took.2 in
         let read = times_read kind small (old s).setup m lawful bytes took.2 in
         let sound : Sound kind (taken kind (old s) m) = subst (Sound kind) is-after (take_keeps kind step_fits commute (old s) (views s) site.sound bytes (Ok n) turn.does) in
-        let credits : (z : ℕ) → (z ≡ (old s).setup.own) ⊎ (z ≡ m.sender) → Credits (views s) z m = λ z is. subst (λ (u : View). Credits u z m) (sym is-after) (take_credits kind page s told_book (old s) m (taken_times bytes) of_group site lawful both.1 read z is) in
-        stands_after kind page before (at s (Takes bytes (Ok n))) old views turn st
-        (take_grows kind page s told_book (old s) m (taken_times bytes) of_group site lawful both.1 read st.ledger)
-        (subst (Site kind page (reaching s (taken_times bytes) told_book) s) (sym is-after) (take_site kind page s told_book (old s) m (taken_times bytes) of_group site lawful both.1 read took.3 sound st.ledger))
+        let credits : (z : ℕ) → (z ≡ (old s).setup.own) ⊎ (z ≡ m.sender) → Credits (views s) z m = λ z is. subst (λ (u : View). Credits u z m) (sym is-after) (take_credits kind group s told_book (old s) m (taken_times bytes) of_group site lawful both.1 read z is) in
+        stands_after kind group before (at s (Takes bytes (Ok n))) old views turn st
+        (take_grows kind group s told_book (old s) m (taken_times bytes) of_group site lawful both.1 read st.account)
+        (subst (Site kind group (reaching s (taken_times bytes) told_book) s) (sym is-after) (take_site kind group s told_book (old s) m (taken_times bytes) of_group site lawful both.1 read took.3 sound st.account))
         (λ a z q. subst (λ (u : View). entry (old s) a z q ≤ entry u a z q) (sym is-after) (taken_ge kind (old s) m site.sound lawful a z q))
         (inl refl)
-        (m, both.0, credits s (inl (sym (own_is kind page told_book s of_group (old s) site))), credits m.sender (inr refl))
+        (m, both.0, credits s (inl (sym (own_is kind group told_book s of_group (old s) site))), credits m.sender (inr refl))

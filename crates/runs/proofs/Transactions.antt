@@ -18,17 +18,17 @@ use Rattle.table.proofs.Lawfulness.{transaction_lawful}
 use Rattle.table.proofs.Rising.{below_counting}
 use Rattle.table.proofs.Soundness.{committed_entry_ge, passed}
 use Rattle.runs.specs.Books.{Book, book}
-use Rattle.runs.specs.Lines.{Line}
-use Rattle.runs.specs.Lines.Call.{Commits}
-use Rattle.runs.specs.Runs.{Page, Turn}
+use Rattle.runs.specs.Events.{Event, at}
+use Rattle.runs.specs.Events.Call.{Commits}
+use Rattle.runs.specs.Runs.{Group, Turn}
 use Rattle.runs.proofs.Commits.{after, commit_grows, commit_reach_own, commit_site, old_own}
 use Rattle.runs.proofs.Growing.{stands_after}
-use Rattle.runs.proofs.Opening.{at, stands_still}
+use Rattle.runs.proofs.Opening.{stands_still}
 use Rattle.runs.proofs.Sites.{articles_are, lawful_anywhere, own_entry, own_is}
-use Rattle.runs.proofs.Standing.{Ledger, Site, Standing, Told, Truthful}
+use Rattle.runs.proofs.Standing.{Account, Site, Standing, Told, Truthful}
 use Rattle.runs.proofs.Writing.{written_back}
 
-module _ (kind : Meaning) (page : Page) (b : Book) (s : ℕ) (of_group : s < page.sites) (v : View) (site : Site kind page b s v) (l : Ledger page b) where
+module _ (kind : Meaning) (group : Group) (b : Book) (s : ℕ) (of_group : s < group.sites) (v : View) (site : Site kind group b s v) (l : Account group b) where
   abbrev m : Message
   m = transaction_message kind v
 
@@ -36,13 +36,13 @@ module _ (kind : Meaning) (page : Page) (b : Book) (s : ℕ) (of_group : s < pag
   own = v.setup.own
 
   abbrev then : Book
-  then = after kind page b s of_group v site l
+  then = after kind group b s of_group v site l
 
   abbrev interval : ℕ → Interval
   interval a = record { site = own; from = entry v a own own; to = max (entry v a own own) (latest a v.pending) }
 
   own_s : own ≡ s
-  own_s = own_is kind page b s of_group v site
+  own_s = own_is kind group b s of_group v site
 
   -- what holds of each section holds by its article
   each_section : (P : Section → Type 0) → ((a : ℕ) → Has (written_articles v) a → P (transaction_section v a)) → (c : Section) → Has m.sections c → P c
@@ -52,22 +52,22 @@ module _ (kind : Meaning) (page : Page) (b : Book) (s : ℕ) (of_group : s < pag
   each_interval P each =
       all_joined (λ c. map (λ i. (c.article, i)) c.intervals) P m.sections (each_section (λ c. AllByRecursion P (map (λ i. (c.article, i)) c.intervals)) (λ a h. (each a h, tt)))
 
-  listed : (a : ℕ) → Has (written_articles v) a → a < page.articles
+  listed : (a : ℕ) → Has (written_articles v) a → a < group.articles
   listed a h =
       let lt : a < v.setup.articles = all-has (λ n. n < v.setup.articles) (written_articles v) a (all_kept_by (is_written v) (λ n. n < v.setup.articles) (range_with_len 0 v.setup.articles) (below_counting v.setup.articles)) h in
-      omega (arith, articles_are kind page b s of_group v site)
+      omega (arith, articles_are kind group b s of_group v site)
 
   -- the own entry before the commit
-  own_before : (a : ℕ) → a < page.articles → entry v a own own ≡ b.reach s a s
-  own_before a al = ap (λ (n : ℕ). entry v a own n) own_s ∙ own_entry kind page b s of_group v site a s al of_group
+  own_before : (a : ℕ) → a < group.articles → entry v a own own ≡ b.reach s a s
+  own_before a al = ap (λ (n : ℕ). entry v a own n) own_s ∙ own_entry kind group b s of_group v site a s al of_group
 
   pub transaction_true : Truthful then m
   transaction_true = record {
     sender_has = each_interval (λ h. h.1.to ≤ then.reach own h.0 h.1.site) (λ a h.
-        subst (λ (n : ℕ). (interval a).to ≤ then.reach n a n) (sym own_s) (omega (arith, own_before a (listed a h), commit_reach_own kind page b s of_group v site l a, ap (latest a) site.pending_is)));
+        subst (λ (n : ℕ). (interval a).to ≤ then.reach n a n) (sym own_s) (omega (arith, own_before a (listed a h), commit_reach_own kind group b s of_group v site l a, ap (latest a) site.pending_is)));
     whole = each_interval (λ h. (x : Action) → Has then.committed x → x.article ≡ h.0 → x.coordinator ≡ h.1.site → h.1.from < x.time → x.time ≤ h.1.to → Has (carried m) x) (λ a h x has on_it of-it above up_to_lem.
         ⊎_elim
-        (λ old. absurd (omega (arith, above, own_before a (listed a h), subst (λ (c : ℕ). x.time ≤ b.reach s c s) on_it (old_own kind page b s of_group v site l x old (of-it ∙ own_s)))))
+        (λ old. absurd (omega (arith, above, own_before a (listed a h), subst (λ (c : ℕ). x.time ≤ b.reach s c s) on_it (old_own kind group b s of_group v site l x old (of-it ∙ own_s)))))
         (λ mine. has_joined (λ c. c.actions) m.sections (transaction_section v a) x (has_map (transaction_section v) (written_articles v) a h) (has_kept_by (λ y. eqb y.article a) v.pending x (subst (λ (xs : List Action). Has xs x) site.pending_is mine) (eq-eqb x.article a on_it)))
         (has_append_cases b.committed (b.pending s) x has));
     sure = all_joined (λ c. c.actions) (Has then.committed) m.sections (each_section (λ c. AllByRecursion (Has then.committed) c.actions) (λ a h.
@@ -75,33 +75,33 @@ module _ (kind : Meaning) (page : Page) (b : Book) (s : ℕ) (of_group : s < pag
   }
 
   -- all of it, or nothing
-  commit_told : (buffer : List ℕ) → Told kind page then (fitting (transaction_bytes kind v) buffer)
+  commit_told : (buffer : List ℕ) → Told kind group then (fitting (transaction_bytes kind v) buffer)
   commit_told buffer = by_fit (leb (length (transaction_bytes kind v)) (length buffer))
     where
-      by_writes : (t : Bool) → ltb 0 (length v.pending) ≡ t → Told kind page then (cond t (format m) [])
-      by_writes true e = inr (m, record { is = refl; lawful = lawful_anywhere kind page b s of_group v site m (transaction_lawful kind v site.sound (ltb-true 0 (length v.pending) e)) }, transaction_true)
+      by_writes : (t : Bool) → ltb 0 (length v.pending) ≡ t → Told kind group then (cond t (format m) [])
+      by_writes true e = inr (m, record { is = refl; lawful = lawful_anywhere kind group b s of_group v site m (transaction_lawful kind v site.sound (ltb-true 0 (length v.pending) e)) }, transaction_true)
       by_writes false e = inl refl
 
-      by_fit : (t : Bool) → Told kind page then (cond t (transaction_bytes kind v) [])
+      by_fit : (t : Bool) → Told kind group then (cond t (transaction_bytes kind v) [])
       by_fit true = by_writes (ltb 0 (length v.pending)) refl
       by_fit false = inl refl
 
-module _ (kind : Meaning) (page : Page) (before : List Line) (s : ℕ) (old views : ℕ → View) (st : Standing kind page before old) where
-  pub commit_stands : (t : Ticket) (buffer : List ℕ) (r : Result (ℕ × ℕ) (TableFault × Ticket)) (left : List ℕ) → Turn kind page before (at s (Commits t buffer r left)) old views → Standing kind page (at s (Commits t buffer r left) ∷ before) views
-  commit_stands t buffer (Err e) left turn = stands_still kind page before s old views st (Commits t buffer (Err e) left) turn refl turn.does.2 (inl refl) tt
+module _ (kind : Meaning) (group : Group) (before : List Event) (s : ℕ) (old views : ℕ → View) (st : Standing kind group before old) where
+  pub commit_stands : (t : Ticket) (buffer : List ℕ) (r : Result (ℕ × ℕ) (TableFault × Ticket)) (left : List ℕ) → Turn kind group before (at s (Commits t buffer r left)) old views → Standing kind group (at s (Commits t buffer r left) ∷ before) views
+  commit_stands t buffer (Err e) left turn = stands_still kind group before s old views st (Commits t buffer (Err e) left) turn refl turn.does.2 (inl refl) tt
   commit_stands t buffer (Ok n) left turn =
-      let b = book page before in
+      let b = book group before in
       let v = old s in
       let of_group = turn.of_group in
       let site = st.sites s of_group in
-      let l = st.ledger in
+      let l = st.account in
       let is : views s ≡ committed kind v = turn.does.3 in
       let held = passed (holds kind v t) _ _ turn.does.0 in
       let free = leb-true (length v.history + length v.pending) v.capacity (passed (leb (length v.history + length v.pending) v.capacity) _ _ held.1).0 in
       let bytes : take n.1 left ≡ fitting (transaction_bytes kind v) buffer = written_back buffer (fitting (transaction_bytes kind v) buffer) left n.1 turn.does.2 turn.does.4 in
-      stands_after kind page before (at s (Commits t buffer (Ok n) left)) old views turn st
-      (commit_grows kind page b s of_group v site l)
-      (subst (Site kind page (after kind page b s of_group v site l) s) (sym is) (commit_site kind page b s of_group v site l free))
+      stands_after kind group before (at s (Commits t buffer (Ok n) left)) old views turn st
+      (commit_grows kind group b s of_group v site l)
+      (subst (Site kind group (after kind group b s of_group v site l) s) (sym is) (commit_site kind group b s of_group v site l free))
       (λ a z q. omega (arith, committed_entry_ge kind v site.sound free a z q, ap (λ (u : View). entry u a z q) is))
-      (subst (Told kind page (after kind page b s of_group v site l)) (sym bytes) (commit_told kind page b s of_group v site l buffer))
+      (subst (Told kind group (after kind group b s of_group v site l)) (sym bytes) (commit_told kind group b s of_group v site l buffer))
       tt

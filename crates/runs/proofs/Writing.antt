@@ -1,4 +1,4 @@
--- What a line wrote, out of the buffer that it wrote it into. Assumes nothing.
+-- What an event wrote, out of the buffer that it wrote it into. Assumes nothing.
 use Rattle.std.proofs.Common.{◌≡◌, ℕ, ◌+◌, List, length, take, drop, sym, ap, ◌∙◌}
 use Rattle.std.proofs.lemmas.List.{take_at}
 use Rattle.message.specs.Buffer.{overwritten}

@@ -1,5 +1,5 @@
--- What a reader of the lines writes down: the actions committed, and which of them each site has. It is
--- computed from the lines alone, by who called what and whether it was granted. Assumes nothing.
+-- What a reader of the events writes down: the actions committed, and which of them each site has. It is
+-- computed from the events alone, by who called what and whether it was granted. Assumes nothing.
 use Rattle.std.specs.Prelude.{ℕ, ◌+◌, max, Bool, cond, ◌&&◌, List, [], ◌∷◌, ◌++◌, map, length, ℤ, Ok, Err, fold, filter, ◌==◌, nat_le}
 use Rattle.std.specs.List.{range_with_len}
 use Rattle.action.specs.declared.orders.Action.{Action}
@@ -9,9 +9,9 @@ use Rattle.kind.specs.Working.{on, working}
 use Rattle.message.specs.Walks.{intervals_of, records_in}
 use Rattle.table.specs.Taking.{highest}
 use Rattle.table.specs.Transactions.{latest}
-use Rattle.runs.specs.Lines.{Call, Line}
-use Rattle.runs.specs.Lines.Call.{Opens, Writes, Commits, Abandons, Offers, Takes, Archives}
-use Rattle.runs.specs.Runs.{Page}
+use Rattle.runs.specs.Events.{Call, Event}
+use Rattle.runs.specs.Events.Call.{Opens, Writes, Commits, Abandons, Offers, Takes, Archives}
+use Rattle.runs.specs.Runs.{Group}
 
 pub record Book : Type 0 where
   -- by site: the actions of its open transaction
@@ -28,15 +28,15 @@ abbrev pub greatest_of : List ℕ → ℕ
 greatest_of ns = fold max 0 ns
 
 -- the greatest time that the site has reached, over all articles and coordinators
-abbrev pub greatest : Page → Book → ℕ → ℕ
-greatest page b s = greatest_of (map (λ a. greatest_of (map (b.reach s a) (range_with_len 0 page.sites))) (range_with_len 0 page.articles))
+abbrev pub greatest : Group → Book → ℕ → ℕ
+greatest group b s = greatest_of (map (λ a. greatest_of (map (b.reach s a) (range_with_len 0 group.sites))) (range_with_len 0 group.articles))
 
 -- the site's next write: a transaction counts on from the greatest time, and is numbered by its first
-abbrev pub next_action : Page → Book → ℕ → ℕ → ℕ → ℤ → Action
-next_action page b s article operation amount = record {
+abbrev pub next_action : Group → Book → ℕ → ℕ → ℕ → ℤ → Action
+next_action group b s article operation amount = record {
   coordinator = s;
-  time = greatest page b s + length (b.pending s) + 1;
-  transaction = greatest page b s + 1;
+  time = greatest group b s + length (b.pending s) + 1;
+  transaction = greatest group b s + 1;
   article = article;
   operation = operation;
   amount = amount;
@@ -66,23 +66,23 @@ own_times s xs a q = cond (q == s) (latest a xs) 0
 abbrev pub taken_times : List ℕ → ℕ → ℕ → ℕ
 taken_times bytes a q = highest a q (intervals_of 0 (records_in bytes))
 
-abbrev pub entered_call : Page → Book → ℕ → Call → Book
-entered_call page b s (Opens r) = b
-entered_call page b s (Writes t article operation amount (Ok time)) = with_pending s (b.pending s ++ next_action page b s article operation amount ∷ []) b
-entered_call page b s (Writes t article operation amount (Err e)) = b
-entered_call page b s (Commits t buffer (Ok n) after) = with_pending s [] (reaching s (own_times s (b.pending s)) (with_committed (b.pending s) b))
-entered_call page b s (Commits t buffer (Err e) after) = b
-entered_call page b s (Abandons t (Ok _)) = with_pending s [] b
-entered_call page b s (Abandons t (Err e)) = b
-entered_call page b s (Offers peer article buffer r after) = b
-entered_call page b s (Takes bytes (Ok n)) = reaching s (taken_times bytes) b
-entered_call page b s (Takes bytes (Err e)) = b
-entered_call page b s (Archives article r) = b
+abbrev pub entered_call : Group → Book → ℕ → Call → Book
+entered_call group b s (Opens r) = b
+entered_call group b s (Writes t article operation amount (Ok time)) = with_pending s (b.pending s ++ next_action group b s article operation amount ∷ []) b
+entered_call group b s (Writes t article operation amount (Err e)) = b
+entered_call group b s (Commits t buffer (Ok n) after) = with_pending s [] (reaching s (own_times s (b.pending s)) (with_committed (b.pending s) b))
+entered_call group b s (Commits t buffer (Err e) after) = b
+entered_call group b s (Abandons t (Ok _)) = with_pending s [] b
+entered_call group b s (Abandons t (Err e)) = b
+entered_call group b s (Offers peer article buffer r after) = b
+entered_call group b s (Takes bytes (Ok n)) = reaching s (taken_times bytes) b
+entered_call group b s (Takes bytes (Err e)) = b
+entered_call group b s (Archives article r) = b
 
--- the book after the lines, the latest of which is first
-abbrev pub book : Page → List Line → Book
-book page [] = blank
-book page (line ∷ before) = entered_call page (book page before) line.site line.call
+-- the book after the events, the latest of which is first
+abbrev pub book : Group → List Event → Book
+book group [] = blank
+book group (event ∷ before) = entered_call group (book group before) event.site event.call
 
 -- the site has the action
 abbrev pub reaches : Book → ℕ → Action → Bool

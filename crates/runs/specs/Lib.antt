@@ -1,4 +1,4 @@
 pub mod Books
+pub mod Events
 pub mod Laws
-pub mod Lines
 pub mod Runs

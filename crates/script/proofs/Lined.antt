@@ -2,8 +2,8 @@
 use Rattle.std.proofs.Common.{◌≡◌, ℕ, zero, suc, ◌<◌, min, eqb, List, [], ◌∷◌, ◌++◌, length, get_or, take, drop, sym, refl, ap, ◌∙◌, subst, ⊎_elim, arith}
 use Rattle.std.proofs.lemmas.List.{append_assoc, append-nil, take_all}
 use Rattle.std.proofs.lemmas.Bool.{cases_lt, cond-false, cond-true, eq-eqb, ne_eqb}
-use Rattle.script.specs.Desk.{DeskView, Runs}
-use Rattle.script.specs.Scripts.{RunsAll, before, lines}
+use Rattle.script.specs.Desk.{DeskView, Performs}
+use Rattle.script.specs.Scripts.{PerformsAll, before, lines}
 
 ended : (b : ℕ) (bytes : List ℕ) → b ≡ 10 → lines (b ∷ bytes) ≡ [] ∷ lines bytes
 ended b bytes e = cond-true (eqb b 10) ([] ∷ lines bytes) (before b (lines bytes)) (eq-eqb b 10 e)
@@ -34,9 +34,9 @@ cut input n e =
     (cases_lt (length input) 32768)
 
 -- one line more
-pub runs_more : (d between after : DeskView) (done : List (List ℕ)) (line bytes sheet : List ℕ) → RunsAll d done between bytes → Runs between line after sheet → RunsAll d (done ++ (line ∷ [])) after (bytes ++ sheet)
+pub runs_more : (d between after : DeskView) (done : List (List ℕ)) (line bytes sheet : List ℕ) → PerformsAll d done between bytes → Performs between line after sheet → PerformsAll d (done ++ (line ∷ [])) after (bytes ++ sheet)
 runs_more d between after [] line bytes sheet all one =
-    (after, sheet, [], subst (λ b. Runs b line after sheet) all.0 one, (refl, refl), ap (λ bs. bs ++ sheet) all.1 ∙ sym (append-nil sheet))
+    (after, sheet, [], subst (λ b. Performs b line after sheet) all.0 one, (refl, refl), ap (λ bs. bs ++ sheet) all.1 ∙ sym (append-nil sheet))
 runs_more d between after (l ∷ ls) line bytes sheet all one =
     let rest = all.2 in
     (all.0, all.1, rest ++ sheet, all.3, runs_more all.0 between after ls line rest sheet all.4 one, ap (λ bs. bs ++ sheet) all.5 ∙ append_assoc all.1 rest sheet)

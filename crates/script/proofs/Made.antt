@@ -13,16 +13,16 @@ use Rattle.table.specs.Offers.{offer_bytes, offer_refusal}
 use Rattle.table.specs.Taking.{Took}
 use Rattle.table.specs.Transactions.{abandon_refusal, abandoned, commit_refusal, committed, fitting, holds, new_action, next_time, open_refusal, opened, ticket, transaction_bytes, with_transaction, write_refusal, written}
 use Rattle.table.specs.View.{View}
-use Rattle.runs.specs.Lines.{Call, Does, Line}
-use Rattle.runs.specs.Lines.Call.{Opens, Writes, Commits, Abandons, Offers, Takes}
-use Rattle.runs.specs.Runs.{Honest, Page, Ran}
+use Rattle.runs.specs.Events.{Call, Does, Event, at}
+use Rattle.runs.specs.Events.Call.{Opens, Writes, Commits, Abandons, Offers, Takes}
+use Rattle.runs.specs.Runs.{Honest, Group, Ran}
 use Rattle.script.specs.declared.answers.Answer.TheVariants.{Time, Length}
 use Rattle.script.specs.declared.commands.Command.{Command}
 use Rattle.script.specs.declared.commands.Command.TheVariants.{Move, Offer}
 use Rattle.script.specs.Acts.{Outcome, decided, moved, moved_opened, moved_written, newly, offered, refused_at}
 use Rattle.script.specs.Desk.{DeskView, table_at, with_table}
 use Rattle.script.specs.Slots.{blank}
-use Rattle.script.specs.Standing.{Kept, Makes, at}
+use Rattle.script.specs.Standing.{Kept, Makes}
 use Rattle.script.specs.Standing.Makes.{moves, commit_refused, write_refused, offers}
 use Rattle.script.proofs.Further.{as_it_is, further, kept_after, kept_now}
 use Rattle.script.proofs.Held.{held_written}
@@ -42,7 +42,7 @@ own_ticket v pending = cond-true (holds on_hand (with_transaction true pending v
 some_bytes : (m : Message) → [] ≡ format m → ⊥
 some_bytes m e = omega (arith, ap length e)
 
-module _ (page : Page) (three : page.sites ≡ 3) (run : List Line) (d : DeskView) (ran : Ran on_hand page run (table_at d)) (site : ℕ) (acts : site < 3) (shut : (table_at d site).is_open ≡ false) (none : (table_at d site).pending ≡ []) where
+module _ (group : Group) (three : group.sites ≡ 3) (run : List Event) (d : DeskView) (ran : Ran on_hand group run (table_at d)) (site : ℕ) (acts : site < 3) (shut : (table_at d site).is_open ≡ false) (none : (table_at d site).pending ≡ []) where
   abbrev v : View
   v = table_at d site
 
@@ -58,16 +58,16 @@ module _ (page : Page) (three : page.sites ≡ 3) (run : List Line) (d : DeskVie
     capacity = v.capacity;
   }
 
-  start : Ran on_hand page run (table_at (with_table d site v))
-  start = as_it_is page run d site ran
+  start : Ran on_hand group run (table_at (with_table d site v))
+  start = as_it_is group run d site ran
 
-  on : (before : List Line) (call : Call) (u w : View) → Ran on_hand page before (table_at (with_table d site u)) → Does on_hand u call w → Honest before call → Ran on_hand page (at site call ∷ before) (table_at (with_table d site w))
-  on = further page three d site acts
+  on : (before : List Event) (call : Call) (u w : View) → Ran on_hand group before (table_at (with_table d site u)) → Does on_hand u call w → Honest before call → Ran on_hand group (at site call ∷ before) (table_at (with_table d site w))
+  on = further group three d site acts
 
   -- what a command that writes into a slot makes, and what it leaves, of what the slot held too
   abbrev pub Goes : Command → List ℕ → Outcome → Type 0
   Goes c held o =
-      (calls : List Line) × Makes page run d c o.answer calls × Ran on_hand page (calls ++ run) (table_at (with_table d site o.table)) × Kept (calls ++ run) o.slot × (o.table.is_open ≡ false) × OnErr o.answer ((o.table ≡ v) × (o.slot ≡ held))
+      (calls : List Event) × Makes group run d c o.answer calls × Ran on_hand group (calls ++ run) (table_at (with_table d site o.table)) × Kept (calls ++ run) o.slot × (o.table.is_open ≡ false) × OnErr o.answer ((o.table ≡ v) × (o.slot ≡ held))
 
   -- M
 
@@ -91,7 +91,7 @@ module _ (page : Page) (three : page.sites ≡ 3) (run : List Line) (d : DeskVie
     writes r = Writes t article 1 amount r
 
     module _ (can_begin : open_refusal v ≡ None) where
-      open_ran : Ran on_hand page (at site opens ∷ run) (table_at (with_table d site u))
+      open_ran : Ran on_hand group (at site opens ∷ run) (table_at (with_table d site u))
       open_ran = on run opens v u start (can_begin, refl, refl) tt
 
       module _ (can_write : write_refusal on_hand u t article 1 amount ≡ None) where
@@ -101,10 +101,10 @@ module _ (page : Page) (three : page.sites ≡ 3) (run : List Line) (d : DeskVie
         abbrev commits : Call
         commits = Commits t blank (Ok (length x.pending, length message)) (overwritten blank 0 message)
 
-        abbrev so_far : List Line
+        abbrev so_far : List Event
         so_far = at site (writes (Ok (next_time u))) ∷ (at site opens ∷ run)
 
-        write_ran : Ran on_hand page so_far (table_at (with_table d site x))
+        write_ran : Ran on_hand group so_far (table_at (with_table d site x))
         write_ran = on (at site opens ∷ run) (writes (Ok (next_time u))) u x open_ran (omega arith, fits, (can_write, refl, refl)) tt
 
         commit_granted_goes : commit_refusal on_hand x t ≡ None → Goes c held (record { table = committed on_hand x; slot = message; answer = Ok (Time (next_time u)) })
@@ -120,7 +120,7 @@ module _ (page : Page) (three : page.sites ≡ 3) (run : List Line) (d : DeskVie
         commit_refused_goes : (e : TableFault) → commit_refusal on_hand x t ≡ Some (shown e) → Goes c held (refused_at (abandoned x) held (shown e))
         commit_refused_goes e is =
             let call : Call = Commits t blank (Err (e, t)) blank in
-            let calls : List Line = at site (Abandons t (Ok tt)) ∷ (at site call ∷ (at site (writes (Ok (next_time u))) ∷ (at site opens ∷ []))) in
+            let calls : List Event = at site (Abandons t (Ok tt)) ∷ (at site call ∷ (at site (writes (Ok (next_time u))) ∷ (at site opens ∷ []))) in
             let refused = on so_far call x x write_ran (is, refl, refl, refl) tt in
             (calls, commit_refused site article slot amount t (next_time u) e (commit_number x t (shown e) (own_holds v x.pending) is), on (at site call ∷ so_far) (Abandons t (Ok tt)) x (abandoned x) refused (own_ticket v x.pending, refl) tt, kept_after calls run held kept, refl, (as_before, refl))
 
@@ -130,7 +130,7 @@ module _ (page : Page) (three : page.sites ≡ 3) (run : List Line) (d : DeskVie
 
       write_refused_goes : (e : TableFault) → write_refusal on_hand u t article 1 amount ≡ Some (shown e) → Goes c held (refused_at (abandoned u) held (shown e))
       write_refused_goes e is =
-          let calls : List Line = at site (Abandons t (Ok tt)) ∷ (at site (writes (Err e)) ∷ (at site opens ∷ [])) in
+          let calls : List Event = at site (Abandons t (Ok tt)) ∷ (at site (writes (Err e)) ∷ (at site opens ∷ [])) in
           let refused = on (at site opens ∷ run) (writes (Err e)) u u open_ran (omega arith, fits, (is, refl)) tt in
           (calls, write_refused site article slot amount t e (write_number u t article amount (shown e) (own_holds v v.pending) known none is), on (at site (writes (Err e)) ∷ (at site opens ∷ run)) (Abandons t (Ok tt)) u (abandoned u) refused (own_ticket v v.pending, refl) tt, kept_after calls run held kept, refl, (as_before, refl))
 
@@ -174,7 +174,7 @@ module _ (page : Page) (three : page.sites ≡ 3) (run : List Line) (d : DeskVie
   honest held (Ok n) w kept took = ⊎_elim (λ none. absurd (some_bytes took.1.0 (sym none ∙ took.1.2))) (λ has. has) kept
   honest held (Err e) w kept took = tt
 
-  pub take_ran : (held : List ℕ) (r : Result ℕ TableFault) (w : View) → Kept run held → Took on_hand v held r w → Ran on_hand page (at site (Takes held r) ∷ run) (table_at (with_table d site w))
+  pub take_ran : (held : List ℕ) (r : Result ℕ TableFault) (w : View) → Kept run held → Took on_hand v held r w → Ran on_hand group (at site (Takes held r) ∷ run) (table_at (with_table d site w))
   take_ran held r w kept took = on run (Takes held r) v w start took (honest held r w kept took)
 
   pub take_shut : (held : List ℕ) (r : Result ℕ TableFault) (w : View) → Took on_hand v held r w → w.is_open ≡ false

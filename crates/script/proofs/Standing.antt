@@ -1,5 +1,5 @@
 -- A desk that stands at the end of a run stands at the end of a longer one after each command, line and script;
--- and a new desk stands at the end of a run of no lines.
+-- and a new desk stands at the end of a run of no events.
 use Rattle.std.proofs.Common.{◌≡◌, ℕ, zero, suc, ◌<◌, Bool, true, false, cond, ltb, List, [], ◌∷◌, ◌++◌, get_or, set, replicate, ℤ, IfSome, Some, None, Ok, Err, OnErr, Option, Result, sym, refl, ap, ◌∙◌, subst, arith, w64, SFits, rules}
 use Rattle.std.specs.List.{AllByRecursion}
 use Rattle.std.specs.declared.alloc.AllocError.{AllocError}
@@ -12,20 +12,20 @@ use Rattle.kind.specs.Meanings.{on_hand}
 use Rattle.kind.specs.OnHandLaws.{on_hand_commutes, on_hand_fits}
 use Rattle.table.specs.Answers.{figure}
 use Rattle.table.specs.View.{View, fresh}
+use Rattle.runs.specs.Events.{Event, at}
+use Rattle.runs.specs.Events.Call.{Takes}
 use Rattle.runs.specs.Laws.{Counted, EveryRun}
-use Rattle.runs.specs.Lines.{Line}
-use Rattle.runs.specs.Lines.Call.{Takes}
-use Rattle.runs.specs.Runs.{OfPage, Page}
+use Rattle.runs.specs.Runs.{OfGroup, Group}
 use Rattle.runs.proofs.Laws.{every_counted, run_stands}
 use Rattle.runs.proofs.Standing.{Standing}
 use Rattle.script.specs.declared.answers.Answer.TheVariants as Answers
 use Rattle.script.specs.declared.commands.Command.{Command}
 use Rattle.script.specs.declared.commands.Command.TheVariants.{Move, Offer, Take, Figure, OpenItem}
 use Rattle.script.specs.Acts.{Outcome, Reply, decided, figured, flagged, newly, refuse}
-use Rattle.script.specs.Desk.{Acts, ActsAt, DeskView, FreshDesk, FreshSite, Runs, RunsCommand, SiteTurn, settled, table_at, with_slots, with_table}
+use Rattle.script.specs.Desk.{Acts, ActsAt, DeskView, FreshDesk, FreshSite, Performs, PerformsCommand, SiteTurn, settled, table_at, with_slots, with_table}
 use Rattle.script.specs.Lines.{command}
-use Rattle.script.specs.Scripts.{RunsAll, Scripted}
-use Rattle.script.specs.Standing.{AfterRun, Kept, LineStands, Makes, MakesLine, NewStands, PlaysAll, ScriptStands, at, counted_figure}
+use Rattle.script.specs.Scripts.{PerformsAll, Scripted}
+use Rattle.script.specs.Standing.{AfterRun, Kept, LineStands, Makes, MakesLine, NewStands, PlaysAll, ScriptStands, counted_figure}
 use Rattle.script.specs.Standing.Makes.{takes, figures, flags}
 use Rattle.script.proofs.Further.{kept_at, slots_kept, slots_stay, stands_further}
 use Rattle.script.proofs.Made.{Goes, move_goes, offer_goes, take_ran, take_shut, take_stays}
@@ -61,10 +61,10 @@ figure_or_four : (known : Bool) (z y : ℤ) → (known ≡ true → z ≡ y) →
 figure_or_four true z y same = ap (λ f. Ok (Answers.Figure f)) (same refl)
 figure_or_four false z y same = refl
 
-module _ (page : Page) (run : List Line) (d : DeskView) (stood : AfterRun page run d) where
+module _ (group : Group) (run : List Event) (d : DeskView) (stood : AfterRun group run d) where
   -- after a command: the calls that it made, and the desk at the end of the longer run
   abbrev Goes_on : Command → Reply → DeskView → Type 0
-  Goes_on c a after = (calls : List Line) × Makes page run d c a calls × OnErr a (after ≡ d) × AfterRun page (calls ++ run) after
+  Goes_on c a after = (calls : List Event) × Makes group run d c a calls × OnErr a (after ≡ d) × AfterRun group (calls ++ run) after
 
   module _ (site : ℕ) (acts : site < 3) where
     -- the desk with the site's table and the slots that are there now
@@ -75,17 +75,17 @@ module _ (page : Page) (run : List Line) (d : DeskView) (stood : AfterRun page r
     abbrev turn : DeskView → Reply → SiteTurn
     turn after a = record { table = table_at after site; slots = after.slots; answer = a }
 
-    inside : site < page.sites
+    inside : site < group.sites
     inside = omega (arith, stood.sites_are)
 
     shut : (table_at d site).is_open ≡ false
     shut = stood.closed site acts
 
     none : (table_at d site).pending ≡ []
-    none = ((on_hand_stands page run (table_at d) stood.ran).sites site inside).sound.closed shut
+    none = ((on_hand_stands group run (table_at d) stood.ran).sites site inside).sound.closed shut
 
     -- a command that writes into a slot
-    writes : (c : Command) (slot : ℕ) (o : Outcome) (a : Reply) (after : DeskView) → Goes page stood.sites_are run d stood.ran site acts shut none c (get_or d.slots slot []) o → turn after a ≡ settled d.slots slot o → after ≡ now after → Goes_on c a after
+    writes : (c : Command) (slot : ℕ) (o : Outcome) (a : Reply) (after : DeskView) → Goes group stood.sites_are run d stood.ran site acts shut none c (get_or d.slots slot []) o → turn after a ≡ settled d.slots slot o → after ≡ now after → Goes_on c a after
     writes c slot o a after (calls, makes, ran, kept, closed, stays) is others =
         let left : after ≡ with_slots (with_table d site o.table) (set d.slots slot o.slot) = others ∙ (λ i. with_slots (with_table d site (is i).table) (is i).slots) in
         let answer : o.answer ≡ a = sym (λ i. (is i).answer) in
@@ -93,91 +93,91 @@ module _ (page : Page) (run : List Line) (d : DeskView) (stood : AfterRun page r
         λ same. left ∙ (λ i. with_slots (with_table d site (same.0 i)) (set d.slots slot (same.1 i))) ∙ ap (with_slots (with_table d site (table_at d site))) (set-get_or d.slots slot []) ∙ sym (as_it_was d site)
         in (
           calls,
-          subst (λ b. Makes page run d c b calls) answer makes,
+          subst (λ b. Makes group run d c b calls) answer makes,
           subst (λ b. OnErr b (after ≡ d)) answer (on_err_weaker o.answer as_before stays),
-          subst (AfterRun page (calls ++ run)) (sym left) (stands_further page run d stood calls site acts o.table (set d.slots slot o.slot) ran (slots_kept page run d stood calls slot o.slot kept) closed),
+          subst (AfterRun group (calls ++ run)) (sym left) (stands_further group run d stood calls site acts o.table (set d.slots slot o.slot) ran (slots_kept group run d stood calls slot o.slot kept) closed),
         )
 
     -- a command that changes nothing
-    leaves : (c : Command) (a b : Reply) (after : DeskView) → Makes page run d c b [] → turn after a ≡ turn d b → after ≡ now after → Goes_on c a after
+    leaves : (c : Command) (a b : Reply) (after : DeskView) → Makes group run d c b [] → turn after a ≡ turn d b → after ≡ now after → Goes_on c a after
     leaves c a b after made is others =
         let same : after ≡ d = others ∙ (λ i. with_slots (with_table d site (is i).table) (is i).slots) ∙ sym (as_it_was d site) in
-        ([], subst (λ r. Makes page run d c r []) (sym (λ i. (is i).answer)) made, on_err a same, subst (AfterRun page run) (sym same) stood)
+        ([], subst (λ r. Makes group run d c r []) (sym (λ i. (is i).answer)) made, on_err a same, subst (AfterRun group run) (sym same) stood)
 
     takes_on : (slot : ℕ) (a : Reply) (after : DeskView) → ActsAt (table_at d site) d.slots (Take site slot) (turn after a) → after ≡ now after → Goes_on (Take site slot) a after
     takes_on slot a after ((r, took, told), stay) others =
         let bytes = get_or d.slots slot [] in
-        let calls : List Line = at site (Takes bytes r) ∷ [] in
+        let calls : List Event = at site (Takes bytes r) ∷ [] in
         let w = table_at after site in
         let left : after ≡ with_slots (with_table d site w) d.slots = others ∙ ap (with_slots (with_table d site w)) stay in
         let kept = kept_at run d.slots slot stood.slots in
         let as_before : w ≡ table_at d site → after ≡ d = λ same. left ∙ ap (λ u. with_slots (with_table d site u) d.slots) same ∙ sym (as_it_was d site) in (
           calls,
-          subst (λ b. Makes page run d (Take site slot) b calls) (sym told) (takes site slot r),
-          subst (λ b. OnErr b (after ≡ d)) (sym told) (on_err_weaker (newly r) as_before (take_stays page stood.sites_are run d stood.ran site acts shut none bytes r w took)),
-          subst (AfterRun page (calls ++ run)) (sym left) (stands_further page run d stood calls site acts w d.slots (take_ran page stood.sites_are run d stood.ran site acts shut none bytes r w kept took) (slots_stay page run d stood calls) (take_shut page stood.sites_are run d stood.ran site acts shut none bytes r w took)),
+          subst (λ b. Makes group run d (Take site slot) b calls) (sym told) (takes site slot r),
+          subst (λ b. OnErr b (after ≡ d)) (sym told) (on_err_weaker (newly r) as_before (take_stays group stood.sites_are run d stood.ran site acts shut none bytes r w took)),
+          subst (AfterRun group (calls ++ run)) (sym left) (stands_further group run d stood calls site acts w d.slots (take_ran group stood.sites_are run d stood.ran site acts shut none bytes r w kept took) (slots_stay group run d stood calls) (take_shut group stood.sites_are run d stood.ran site acts shut none bytes r w took)),
         )
 
     -- the site has four articles, and its figures are those that the run counts
-    counts : (article : ℕ) → figured (table_at d site) article ≡ counted_figure page run site article
+    counts : (article : ℕ) → figured (table_at d site) article ≡ counted_figure group run site article
     counts article =
-        let four : (table_at d site).setup.articles ≡ 4 = ap (λ (s : Setup). s.articles) ((on_hand_stands page run (table_at d) stood.ran).sites site inside).setup_is ∙ (page.of_page site inside).articles_are ∙ stood.articles_are in
-        let law = on_hand_counted page run (table_at d) stood.ran in
+        let four : (table_at d site).setup.articles ≡ 4 = ap (λ (s : Setup). s.articles) ((on_hand_stands group run (table_at d) stood.ran).sites site inside).setup_is ∙ (group.agrees site inside).articles_are ∙ stood.articles_are in
+        let law = on_hand_counted group run (table_at d) stood.ran in
         ap (λ n. decided (unless (ltb article n) (by_table 4 0) None) refuse (Ok (Answers.Figure (figure (table_at d site) article)))) four ∙ figure_or_four (ltb article 4) _ _ (λ known. law.figured site article inside (omega (arith, ltb-true article 4 known, stood.articles_are)))
 
   command_goes_on : (c : Command) (a : Reply) (after : DeskView) → Ranged c → Acts d c a after → Goes_on c a after
   command_goes_on (Move site article amount slot) a after ranged is =
       let acts = ranged.0 in
       let kept = kept_at run d.slots slot stood.slots in
-      writes site acts (Move site article amount slot) slot _ a after (move_goes page stood.sites_are run d stood.ran site acts (shut site acts) (none site acts) article amount slot ranged.1 ranged.2 (get_or d.slots slot []) kept) is.0 is.1
+      writes site acts (Move site article amount slot) slot _ a after (move_goes group stood.sites_are run d stood.ran site acts (shut site acts) (none site acts) article amount slot ranged.1 ranged.2 (get_or d.slots slot []) kept) is.0 is.1
   command_goes_on (Offer site peer article slot) a after acts is =
       let kept = kept_at run d.slots slot stood.slots in
-      writes site acts (Offer site peer article slot) slot _ a after (offer_goes page stood.sites_are run d stood.ran site acts (shut site acts) (none site acts) peer article slot (get_or d.slots slot []) kept) is.0 is.1
+      writes site acts (Offer site peer article slot) slot _ a after (offer_goes group stood.sites_are run d stood.ran site acts (shut site acts) (none site acts) peer article slot (get_or d.slots slot []) kept) is.0 is.1
   command_goes_on (Take site slot) a after ranged is = takes_on site ranged slot a after is.0 is.1
   command_goes_on (Figure site article) a after ranged is =
-      leaves site ranged (Figure site article) a (figured (table_at d site) article) after (subst (λ b. Makes page run d (Figure site article) b []) (sym (counts site ranged article)) (figures site article)) is.0 is.1
+      leaves site ranged (Figure site article) a (figured (table_at d site) article) after (subst (λ b. Makes group run d (Figure site article) b []) (sym (counts site ranged article)) (figures site article)) is.0 is.1
   command_goes_on (OpenItem site peer article) a after ranged is = leaves site ranged (OpenItem site peer article) a (flagged (table_at d site) peer article) after (flags site peer article) is.0 is.1
 
 -- ONE LINE, AND ONE AFTER ANOTHER
 
-pub line_stands : (d : DeskView) (line : List ℕ) (after : DeskView) (bytes : List ℕ) → Runs d line after bytes → LineStands d line after bytes
-line_stands d line after bytes runs page run stood =
+pub line_stands : (d : DeskView) (line : List ℕ) (after : DeskView) (bytes : List ℕ) → Performs d line after bytes → LineStands d line after bytes
+line_stands d line after bytes runs group run stood =
     let goes = by_command (command line) (command_ranged line) runs in
     (goes.0, (runs, goes.1, goes.2))
   where
-    by_command : (o : Option Command) → IfSome o Ranged → RunsCommand d o after bytes → (calls : List Line) × MakesLine page run d o calls after bytes × AfterRun page (calls ++ run) after
-    by_command None ranged is = ([], (refl, is.0, is.1), subst (AfterRun page run) (sym is.0) stood)
+    by_command : (o : Option Command) → IfSome o Ranged → PerformsCommand d o after bytes → (calls : List Event) × MakesLine group run d o calls after bytes × AfterRun group (calls ++ run) after
+    by_command None ranged is = ([], (refl, is.0, is.1), subst (AfterRun group run) (sym is.0) stood)
     by_command (Some c) ranged is =
-        let goes = command_goes_on page run d stood c is.0 after ranged is.1 in
+        let goes = command_goes_on group run d stood c is.0 after ranged is.1 in
         (goes.0, (is.0, goes.1, goes.2, is.2), goes.3)
 
-lines_stand : (page : Page) (run : List Line) (d : DeskView) (lines : List (List ℕ)) (after : DeskView) (bytes : List ℕ) → RunsAll d lines after bytes → AfterRun page run d → (later : List Line) × PlaysAll page run d lines later after bytes × AfterRun page later after
-lines_stand page run d [] after bytes is stood = (run, (refl, is.0, is.1), subst (AfterRun page run) (sym is.0) stood)
-lines_stand page run d (line ∷ lines) after bytes (between, sheet, rest, first, others, is) stood =
-    let one = line_stands d line between sheet first page run stood in
-    let all = lines_stand page (one.0 ++ run) between lines after rest others one.1.2 in
+lines_stand : (group : Group) (run : List Event) (d : DeskView) (lines : List (List ℕ)) (after : DeskView) (bytes : List ℕ) → PerformsAll d lines after bytes → AfterRun group run d → (later : List Event) × PlaysAll group run d lines later after bytes × AfterRun group later after
+lines_stand group run d [] after bytes is stood = (run, (refl, is.0, is.1), subst (AfterRun group run) (sym is.0) stood)
+lines_stand group run d (line ∷ lines) after bytes (between, sheet, rest, first, others, is) stood =
+    let one = line_stands d line between sheet first group run stood in
+    let all = lines_stand group (one.0 ++ run) between lines after rest others one.1.2 in
     (all.0, (one.0, between, sheet, rest, one.1, all.1, is), all.2)
 
 pub script_stands : (d : DeskView) (input out : List ℕ) (capacity : ℕ) (r : Result Unit AllocError) (after : DeskView) (grown : List ℕ) → Scripted d input out capacity r after grown → ScriptStands d input out capacity r after grown
-script_stands d input out capacity (Ok _) after grown (sheet, all, is) page run stood =
-    let stands = lines_stand page run d _ after sheet all stood in
+script_stands d input out capacity (Ok _) after grown (sheet, all, is) group run stood =
+    let stands = lines_stand group run d _ after sheet all stood in
     (stands.0, sheet, stands.1, stands.2, is)
-script_stands d input out capacity (Err _) after grown (done, line, rest, split, between, sheet, lost, all, last, is, full) page run stood =
-    let stands = lines_stand page run d done between sheet all stood in
-    let one = line_stands between line after lost last page stands.0 stands.2 in
+script_stands d input out capacity (Err _) after grown (done, line, rest, split, between, sheet, lost, all, last, is, full) group run stood =
+    let stands = lines_stand group run d done between sheet all stood in
+    let one = line_stands between line after lost last group stands.0 stands.2 in
     (done, line, rest, split, stands.0, between, sheet, stands.1, one.0, lost, one.1, is, full)
 
 -- A NEW DESK
 
-of_site : (s : ℕ) (v : View) → FreshSite s v → OfPage 1 3 4 s v.setup
+of_site : (s : ℕ) (v : View) → FreshSite s v → OfGroup 1 3 4 s v.setup
 of_site s v new = record { group_is = new.group; sites_are = new.sites; articles_are = new.articles; own_is = new.own }
 
-fresh_setup : (d : DeskView) → FreshDesk d → (s : ℕ) → s < 3 → OfPage 1 3 4 s (table_at d s).setup
+fresh_setup : (d : DeskView) → FreshDesk d → (s : ℕ) → s < 3 → OfGroup 1 3 4 s (table_at d s).setup
 fresh_setup d new zero inside = of_site 0 d.first new.first
 fresh_setup d new (suc zero) inside = of_site 1 d.second new.second
 fresh_setup d new (suc (suc n)) inside =
     let last : 2 ≡ suc (suc n) = omega arith in
-    subst (λ s. OfPage 1 3 4 s d.third.setup) last (of_site 2 d.third new.third)
+    subst (λ s. OfGroup 1 3 4 s d.third.setup) last (of_site 2 d.third new.third)
 
 fresh_table : (d : DeskView) → FreshDesk d → (s : ℕ) → table_at d s ≡ fresh on_hand (table_at d s).setup 64
 fresh_table d new zero = new.first.new
@@ -186,14 +186,14 @@ fresh_table d new (suc (suc n)) = new.third.new
 
 pub new_stands : (d : DeskView) → FreshDesk d → NewStands d
 new_stands d new =
-    let page : Page = record {
-      group = 1;
+    let group : Group = record {
+      number = 1;
       sites = 3;
       articles = 4;
       setup = λ s. (table_at d s).setup;
       capacity = λ s. 64;
-      of_page = fresh_setup d new;
+      agrees = fresh_setup d new;
       few_places = λ s inside. omega arith;
     } in
     let none : AllByRecursion (Kept []) (replicate 10 []) = search rules in
-    (page, record { group_is = refl; sites_are = refl; articles_are = refl; ran = λ s inside. fresh_table d new s; closed = λ s inside. ap (λ (v : View). v.is_open) (fresh_table d new s); slots = subst (AllByRecursion (Kept [])) (sym new.slots) none })
+    (group, record { group_is = refl; sites_are = refl; articles_are = refl; ran = λ s inside. fresh_table d new s; closed = λ s inside. ap (λ (v : View). v.is_open) (fresh_table d new s); slots = subst (AllByRecursion (Kept [])) (sym new.slots) none })

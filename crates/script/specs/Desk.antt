@@ -112,10 +112,10 @@ letter (Figure site article) = 70
 letter (OpenItem site peer article) = 80
 
 -- a line of no known form changes nothing, and is printed under `?` as refused by 18
-abbrev pub RunsCommand : DeskView → Option Command → DeskView → List ℕ → Type 0
-RunsCommand d None after bytes = (after ≡ d) × (bytes ≡ printed 63 (Err 18))
-RunsCommand d (Some c) after bytes = (a : Reply) × Acts d c a after × (bytes ≡ printed (letter c) a)
+abbrev pub PerformsCommand : DeskView → Option Command → DeskView → List ℕ → Type 0
+PerformsCommand d None after bytes = (after ≡ d) × (bytes ≡ printed 63 (Err 18))
+PerformsCommand d (Some c) after bytes = (a : Reply) × Acts d c a after × (bytes ≡ printed (letter c) a)
 
 -- a line, the desk that it leaves and what it prints
-abbrev pub Runs : DeskView → List ℕ → DeskView → List ℕ → Type 0
-Runs d line after bytes = RunsCommand d (command line) after bytes
+abbrev pub Performs : DeskView → List ℕ → DeskView → List ℕ → Type 0
+Performs d line after bytes = PerformsCommand d (command line) after bytes

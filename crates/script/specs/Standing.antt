@@ -8,14 +8,14 @@ use Rattle.table.specs.declared.faults.TableFault.{TableFault}
 use Rattle.table.specs.declared.tickets.Ticket.{Ticket}
 use Rattle.table.specs.Faults.{shown}
 use Rattle.runs.specs.Books.{book, counted}
-use Rattle.runs.specs.Lines.{Call, Line, wrote}
-use Rattle.runs.specs.Lines.Call.{Opens, Writes, Commits, Abandons, Offers, Takes}
-use Rattle.runs.specs.Runs.{Page, Ran}
+use Rattle.runs.specs.Events.{Event, at, wrote}
+use Rattle.runs.specs.Events.Call.{Opens, Writes, Commits, Abandons, Offers, Takes}
+use Rattle.runs.specs.Runs.{Group, Ran}
 use Rattle.script.specs.declared.answers.Answer.TheVariants as Answers
 use Rattle.script.specs.declared.commands.Command.{Command}
 use Rattle.script.specs.declared.commands.Command.TheVariants.{Move, Offer, Take, Figure, OpenItem}
 use Rattle.script.specs.Acts.{Reply, flagged, newly, refuse}
-use Rattle.script.specs.Desk.{DeskView, Runs, letter, table_at}
+use Rattle.script.specs.Desk.{DeskView, Performs, letter, table_at}
 use Rattle.script.specs.Lines.{command}
 use Rattle.script.specs.Scripts.{script}
 use Rattle.script.specs.Sheets.{printed}
@@ -23,28 +23,25 @@ use Rattle.script.specs.Slots.{blank}
 
 -- THE DESK
 
--- nothing, or what one of these lines wrote
-abbrev pub Kept : List Line → List ℕ → Type 0
-Kept run bytes = (bytes ≡ []) ⊎ Has (map (λ line. wrote line.call) run) bytes
+-- nothing, or what one of these events wrote
+abbrev pub Kept : List Event → List ℕ → Type 0
+Kept run bytes = (bytes ≡ []) ⊎ Has (map (λ event. wrote event.call) run) bytes
 
--- the desk stands at the end of this run: the lines, the latest first, led from new tables of three sites with four
+-- the desk stands at the end of this run: its events, the latest first, led from new tables of three sites with four
 -- articles to the desk's, no transaction is open, and each slot holds nothing or what one of them wrote
-pub record AfterRun (page : Page) (run : List Line) (d : DeskView) : Type 0 where
-  pub group_is : page.group ≡ 1
-  pub sites_are : page.sites ≡ 3
-  pub articles_are : page.articles ≡ 4
-  pub ran : Ran on_hand page run (table_at d)
+pub record AfterRun (group : Group) (run : List Event) (d : DeskView) : Type 0 where
+  pub group_is : group.number ≡ 1
+  pub sites_are : group.sites ≡ 3
+  pub articles_are : group.articles ≡ 4
+  pub ran : Ran on_hand group run (table_at d)
   pub closed : (site : ℕ) → site < 3 → (table_at d site).is_open ≡ false
   pub slots : AllByRecursion (Kept run) d.slots
 
 -- THE LINES
 
-abbrev pub at : ℕ → Call → Line
-at site call = record { site = site; call = call }
-
 -- the article's figure by all movements of the run that the site has, each counted once; refused by 4 above article 3
-abbrev pub counted_figure : Page → List Line → ℕ → ℕ → Reply
-counted_figure page run site article = cond (nat_lt article 4) (Ok (Answers.Figure (counted on_hand (book page run) site article))) (Err 4)
+abbrev pub counted_figure : Group → List Event → ℕ → ℕ → Reply
+counted_figure group run site article = cond (nat_lt article 4) (Ok (Answers.Figure (counted on_hand (book group run) site article))) (Err 4)
 
 -- how long the offer is, or the refusal
 abbrev pub measured : Result ℕ TableFault → Reply
@@ -52,58 +49,58 @@ measured (Ok n) = Ok (Answers.Length n)
 measured (Err e) = refuse (shown e)
 
 -- after this run, which led to this desk, a command makes these calls, the latest first, and answers this
-pub data Makes (page : Page) (run : List Line) (d : DeskView) : Command → Reply → List Line → Type 0 where
+pub data Makes (group : Group) (run : List Event) (d : DeskView) : Command → Reply → List Event → Type 0 where
   -- M: open, write and commit; the open is granted, and where the write is refused, by 4 or 8, or the commit, by 16, the
   -- transaction is abandoned
-  moves : (site article slot : ℕ) (amount : ℤ) (t : Ticket) (time : ℕ) (after : List ℕ) (n : ℕ × ℕ) → Makes page run d (Move site article amount slot) (Ok (Answers.Time time)) (at site (Commits t blank (Ok n) after) ∷ (at site (Writes t article 1 amount (Ok time)) ∷ (at site (Opens (Ok t)) ∷ [])))
-  commit_refused : (site article slot : ℕ) (amount : ℤ) (t : Ticket) (time : ℕ) (e : TableFault) → (shown e).number ≡ 16 → Makes page run d (Move site article amount slot) (refuse (shown e)) (at site (Abandons t (Ok tt)) ∷ (at site (Commits t blank (Err (e, t)) blank) ∷ (at site (Writes t article 1 amount (Ok time)) ∷ (at site (Opens (Ok t)) ∷ []))))
-  write_refused : (site article slot : ℕ) (amount : ℤ) (t : Ticket) (e : TableFault) → ((shown e).number ≡ 4) ⊎ ((shown e).number ≡ 8) → Makes page run d (Move site article amount slot) (refuse (shown e)) (at site (Abandons t (Ok tt)) ∷ (at site (Writes t article 1 amount (Err e)) ∷ (at site (Opens (Ok t)) ∷ [])))
+  moves : (site article slot : ℕ) (amount : ℤ) (t : Ticket) (time : ℕ) (after : List ℕ) (n : ℕ × ℕ) → Makes group run d (Move site article amount slot) (Ok (Answers.Time time)) (at site (Commits t blank (Ok n) after) ∷ (at site (Writes t article 1 amount (Ok time)) ∷ (at site (Opens (Ok t)) ∷ [])))
+  commit_refused : (site article slot : ℕ) (amount : ℤ) (t : Ticket) (time : ℕ) (e : TableFault) → (shown e).number ≡ 16 → Makes group run d (Move site article amount slot) (refuse (shown e)) (at site (Abandons t (Ok tt)) ∷ (at site (Commits t blank (Err (e, t)) blank) ∷ (at site (Writes t article 1 amount (Ok time)) ∷ (at site (Opens (Ok t)) ∷ []))))
+  write_refused : (site article slot : ℕ) (amount : ℤ) (t : Ticket) (e : TableFault) → ((shown e).number ≡ 4) ⊎ ((shown e).number ≡ 8) → Makes group run d (Move site article amount slot) (refuse (shown e)) (at site (Abandons t (Ok tt)) ∷ (at site (Writes t article 1 amount (Err e)) ∷ (at site (Opens (Ok t)) ∷ [])))
   -- O, into the 1,200 bytes that a message is written into
-  offers : (site peer article slot : ℕ) (after : List ℕ) (r : Result ℕ TableFault) → Makes page run d (Offer site peer article slot) (measured r) (at site (Offers peer article blank r after) ∷ [])
+  offers : (site peer article slot : ℕ) (after : List ℕ) (r : Result ℕ TableFault) → Makes group run d (Offer site peer article slot) (measured r) (at site (Offers peer article blank r after) ∷ [])
   -- T, of just the bytes that the slot holds
-  takes : (site slot : ℕ) (r : Result ℕ TableFault) → Makes page run d (Take site slot) (newly r) (at site (Takes (slice_index_or d.slots slot []) r) ∷ [])
+  takes : (site slot : ℕ) (r : Result ℕ TableFault) → Makes group run d (Take site slot) (newly r) (at site (Takes (slice_index_or d.slots slot []) r) ∷ [])
   -- F, as the run counts, and P, as the site's table shows: they change no table
-  figures : (site article : ℕ) → Makes page run d (Figure site article) (counted_figure page run site article) []
-  flags : (site peer article : ℕ) → Makes page run d (OpenItem site peer article) (flagged (table_at d site) peer article) []
+  figures : (site article : ℕ) → Makes group run d (Figure site article) (counted_figure group run site article) []
+  flags : (site peer article : ℕ) → Makes group run d (OpenItem site peer article) (flagged (table_at d site) peer article) []
 
 -- a line makes these calls and prints this; a refused one leaves the desk as it was, its tables and its slots
-abbrev pub MakesLine : Page → List Line → DeskView → Option Command → List Line → DeskView → List ℕ → Type 0
-MakesLine page run d None calls after bytes = (calls ≡ []) × (after ≡ d) × (bytes ≡ printed 63 (Err 18))
-MakesLine page run d (Some c) calls after bytes =
-    (a : Reply) × Makes page run d c a calls × OnErr a (after ≡ d) × (bytes ≡ printed (letter c) a)
+abbrev pub MakesLine : Group → List Event → DeskView → Option Command → List Event → DeskView → List ℕ → Type 0
+MakesLine group run d None calls after bytes = (calls ≡ []) × (after ≡ d) × (bytes ≡ printed 63 (Err 18))
+MakesLine group run d (Some c) calls after bytes =
+    (a : Reply) × Makes group run d c a calls × OnErr a (after ≡ d) × (bytes ≡ printed (letter c) a)
 
 -- a line does to the desk what its letter does, makes these calls and prints this, and the desk that it leaves stands at
 -- the end of the longer run
-abbrev pub Plays : Page → List Line → DeskView → List ℕ → List Line → DeskView → List ℕ → Type 0
-Plays page run d line calls after bytes =
-    Runs d line after bytes × MakesLine page run d (command line) calls after bytes × AfterRun page (calls ++ run) after
+abbrev pub Plays : Group → List Event → DeskView → List ℕ → List Event → DeskView → List ℕ → Type 0
+Plays group run d line calls after bytes =
+    Performs d line after bytes × MakesLine group run d (command line) calls after bytes × AfterRun group (calls ++ run) after
 
 -- one line after another: the run and the desk that they lead to, and all that they print
-abbrev pub PlaysAll : Page → List Line → DeskView → List (List ℕ) → List Line → DeskView → List ℕ → Type 0
-PlaysAll page run d [] later after bytes = (later ≡ run) × (after ≡ d) × (bytes ≡ [])
-PlaysAll page run d (line ∷ lines) later after bytes =
-    (calls : List Line) × (between : DeskView) × (sheet : List ℕ) × (rest : List ℕ) × Plays page run d line calls between sheet × PlaysAll page (calls ++ run) between lines later after rest × (bytes ≡ sheet ++ rest)
+abbrev pub PlaysAll : Group → List Event → DeskView → List (List ℕ) → List Event → DeskView → List ℕ → Type 0
+PlaysAll group run d [] later after bytes = (later ≡ run) × (after ≡ d) × (bytes ≡ [])
+PlaysAll group run d (line ∷ lines) later after bytes =
+    (calls : List Event) × (between : DeskView) × (sheet : List ℕ) × (rest : List ℕ) × Plays group run d line calls between sheet × PlaysAll group (calls ++ run) between lines later after rest × (bytes ≡ sheet ++ rest)
 
 -- EVERY SCRIPT
 
 -- all lines are played and printed; or some are, and one more is played, whose bytes do not fit: what was to be printed
 -- with them is longer than the capacity that the output had
-abbrev pub Tallied : Page → List Line → DeskView → List ℕ → List ℕ → ℕ → Result Unit AllocError → DeskView → List ℕ → Type 0
-Tallied page run d input out capacity (Ok _) after grown =
-    (later : List Line) × (sheet : List ℕ) × PlaysAll page run d (script input) later after sheet × AfterRun page later after × (grown ≡ out ++ sheet)
-Tallied page run d input out capacity (Err _) after grown =
-    (done : List (List ℕ)) × (line : List ℕ) × (rest : List (List ℕ)) × (script input ≡ done ++ (line ∷ rest)) × (later : List Line) × (between : DeskView) × (sheet : List ℕ) × PlaysAll page run d done later between sheet × (calls : List Line) × (lost : List ℕ) × Plays page later between line calls after lost × (grown ≡ out ++ sheet) × (capacity < length grown + length lost)
+abbrev pub Tallied : Group → List Event → DeskView → List ℕ → List ℕ → ℕ → Result Unit AllocError → DeskView → List ℕ → Type 0
+Tallied group run d input out capacity (Ok _) after grown =
+    (later : List Event) × (sheet : List ℕ) × PlaysAll group run d (script input) later after sheet × AfterRun group later after × (grown ≡ out ++ sheet)
+Tallied group run d input out capacity (Err _) after grown =
+    (done : List (List ℕ)) × (line : List ℕ) × (rest : List (List ℕ)) × (script input ≡ done ++ (line ∷ rest)) × (later : List Event) × (between : DeskView) × (sheet : List ℕ) × PlaysAll group run d done later between sheet × (calls : List Event) × (lost : List ℕ) × Plays group later between line calls after lost × (grown ≡ out ++ sheet) × (capacity < length grown + length lost)
 
--- a new desk stands at the end of a run of no lines
+-- a new desk stands at the end of a run of no events
 abbrev pub NewStands : DeskView → Type 0
-NewStands d = (page : Page) × AfterRun page [] d
+NewStands d = (group : Group) × AfterRun group [] d
 
 -- wherever the desk stood before the line
 abbrev pub LineStands : DeskView → List ℕ → DeskView → List ℕ → Type 0
 LineStands d line after bytes =
-    (page : Page) (run : List Line) → AfterRun page run d → (calls : List Line) × Plays page run d line calls after bytes
+    (group : Group) (run : List Event) → AfterRun group run d → (calls : List Event) × Plays group run d line calls after bytes
 
 -- wherever it stood before the script
 abbrev pub ScriptStands : DeskView → List ℕ → List ℕ → ℕ → Result Unit AllocError → DeskView → List ℕ → Type 0
 ScriptStands d input out capacity r after grown =
-    (page : Page) (run : List Line) → AfterRun page run d → Tallied page run d input out capacity r after grown
+    (group : Group) (run : List Event) → AfterRun group run d → Tallied group run d input out capacity r after grown

@@ -33,7 +33,7 @@ fn empty_slots() -> [Slot; 10]
 
 impl Desk {
     // A desk of three sites on which nothing has moved yet, and ten empty slots. It stands at the end of
-    // a run of no lines.
+    // a run of no events.
     pub fn new(heap: Global) -> Result<Desk, AllocError>
         ensures fresh { IfOk result (λ desk. FreshDesk desk) }
         ensures stands { IfOk result (λ desk. NewStands desk) }

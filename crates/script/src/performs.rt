@@ -1,5 +1,5 @@
 ghost use Rattle.std.specs.Prelude.{◌≡◌, ◌<◌};
-ghost use Rattle.script.specs.Desk.{Acted, ActedAt, Runs};
+ghost use Rattle.script.specs.Desk.{Acted, ActedAt, Performs};
 ghost use Rattle.script.specs.Lines.{Placed};
 ghost use Rattle.script.specs.Sheets.{sheet_bytes};
 ghost use Rattle.script.specs.Standing.{LineStands};
@@ -59,7 +59,7 @@ impl Desk {
     // Runs one line, without the byte that ends it, and answers what is printed for it. A desk at the end of
     // a run is then at the end of a longer one.
     pub fn run(&mut self, line: &[u8]) -> SheetLine
-        ensures does { Runs self.old line.now self.new (sheet_bytes result) }
+        ensures does { Performs self.old line.now self.new (sheet_bytes result) }
         ensures stands { LineStands self.old line.now self.new (sheet_bytes result) }
     {
         self.run_line(line)
@@ -67,7 +67,7 @@ impl Desk {
 
     // What `run` does. What it means for a run follows from this clause.
     fn run_line(&mut self, line: &[u8]) -> SheetLine
-        ensures { Runs self.old line.now self.new (sheet_bytes result) }
+        ensures { Performs self.old line.now self.new (sheet_bytes result) }
     {
         match parse(line) {
             Some(command) => {

@@ -2,7 +2,7 @@ use Rattle.std.proofs.Common.{◌≡◌, ◌+◌, ◌<◌, [], ◌∷◌, ◌++�
 use Rattle.std.proofs.lemmas.List.{append_assoc, append-nil, map-append}
 use Rattle.std.proofs.lemmas.Result.{err_from_is_err_and}
 use Rattle.std.specs.Vec.{vec_capacity}
-use Rattle.script.specs.Scripts.{RunsAll, Scripted, lines, script}
+use Rattle.script.specs.Scripts.{PerformsAll, Scripted, lines, script}
 use Rattle.script.specs.Sheets.{sheet_bytes}
 use Rattle.script.proofs.Lined.{cut, runs_more}
 use Rattle.script.proofs.Standing.{script_stands}
@@ -31,7 +31,7 @@ loop-line-preserved c =
       kept_room = omega (arith, inv.kept_room, c.in_ok-extend_from_slice.ensures.capacity);
       ran = (
         before ++ sheet,
-        subst (λ ls. RunsAll start ls after (before ++ sheet)) (sym more) (runs_more start c.loop-line.desk after done line before sheet inv.ran.1 c.run-sheet.ensures.does),
+        subst (λ ls. PerformsAll start ls after (before ++ sheet)) (sym more) (runs_more start c.loop-line.desk after done line before sheet inv.ran.1 c.run-sheet.ensures.does),
         c.in_ok-extend_from_slice.ensures.items ∙ (λ i. inv.ran.2 i ++ c.as_slice.ensures i) ∙ append_assoc out before sheet,
       );
     }
@@ -77,5 +77,5 @@ returns c =
     let done = map (λ b. b.now) c.loop-line.yielded in
     let all : script input ≡ done = inv.whole ∙ ap (λ ls. done ++ ls) c.in-None.ensures.steps.0 ∙ append-nil done in
     let room = vec_capacity c.args.out.now in
-    let does : Scripted start input out room (Ok tt) after grown = (inv.ran.0, subst (λ ls. RunsAll start ls after inv.ran.0) (sym all) inv.ran.1, inv.ran.2) in
+    let does : Scripted start input out room (Ok tt) after grown = (inv.ran.0, subst (λ ls. PerformsAll start ls after inv.ran.0) (sym all) inv.ran.1, inv.ran.2) in
     record { does = does; stands = script_stands start input out room (Ok tt) after grown does }

@@ -1,4 +1,4 @@
--- One line of a run: a call at one site, what it answered and what it left. Assumes nothing.
+-- One event of a run: a call at one site, what it answered and what it left. Assumes nothing.
 use Rattle.std.specs.Prelude.{◌≡◌, ℕ, ◌<◌, List, [], take, ℤ, Ok, Err, Result, FitsSigned}
 use Rattle.std.specs.Int.{w32}
 use Rattle.kind.specs.Meaning.{Meaning}
@@ -20,9 +20,13 @@ pub data Call : Type 0 where
   Takes : (bytes : List ℕ) (answer : Result ℕ TableFault) → Call
   Archives : (article : ℕ) (answer : Result ℕ TableFault) → Call
 
-pub record Line : Type 0 where
+pub record Event : Type 0 where
   pub site : ℕ
   pub call : Call
+
+-- an event at a site
+abbrev pub at : ℕ → Call → Event
+at site call = record { site = site; call = call }
 
 -- the call leads from one state of its site's table to another, as its contract says
 abbrev pub Does : Meaning → View → Call → View → Type 0
