@@ -1,6 +1,6 @@
 -- An event that archives an article: what is archived and what the history holds are together the same.
 -- Assumes nothing.
-use Rattle.std.proofs.Common.{◌≡◌, ℕ, ◌<◌, ◌≤◌, true, eqb, leb, List, ◌∷◌, ◌++◌, ℤ, Ok, Err, Result, sym, refl, ap, ◌∙◌, subst, inl, ⊎_elim, append_assoc, arith, w64, SFits}
+use Rattle.std.proofs.Common.{◌≡◌, ℕ, ◌<◌, true, eqb, leb, List, ◌∷◌, ◌++◌, ℤ, Ok, Err, Result, sym, refl, ap, ◌∙◌, subst, inl, ⊎_elim, append_assoc, arith, w64, SFits}
 use Rattle.std.specs.List.{ContainsAt as Has, AllByRecursion}
 use Rattle.std.proofs.ByRecursion.{All-append, All-weaker, kept_by_passes}
 use Rattle.std.proofs.lemmas.Bool.{and_parts, cases_eq, cond-false, cond-true, eq-eqb, leb-true, ne_eqb}
@@ -20,10 +20,10 @@ use Rattle.runs.specs.Books.{Book, book}
 use Rattle.runs.specs.Events.{Event, at}
 use Rattle.runs.specs.Events.Call.{Archives}
 use Rattle.runs.specs.Runs.{Group, Turn}
-use Rattle.runs.proofs.Growing.{stands_after}
+use Rattle.runs.proofs.Growing.{stands_after, still_everywhere}
 use Rattle.runs.proofs.Opening.{grown_pending, stands_still}
 use Rattle.runs.proofs.Sites.{few_articles, sites_are}
-use Rattle.runs.proofs.Standing.{Gathered, Site, Standing}
+use Rattle.runs.proofs.Standing.{Everywhere, Gathered, Site, Standing}
 
 module _ (kind : Meaning) (step_fits : (f : ℤ) (o : ℕ) (a : ℤ) → SFits w64 f → SFits w64 (kind.steps f o a)) where
   -- the site archives article a
@@ -34,16 +34,12 @@ module _ (kind : Meaning) (step_fits : (f : ℤ) (o : ℕ) (a : ℤ) → SFits w
     same_entry : (c z q : ℕ) → entry w c z q ≡ entry v c z q
     same_entry = archived_entry kind step_fits v a site.sound
 
-    -- what is archived of article c is known to be everywhere, by one table and the other
-    abbrev Everywhere : View → ℕ → Action → Type 0
-    Everywhere u c x = (z q : ℕ) → z < group.sites → q < group.sites → x.time ≤ entry u c z q
+    stays_everywhere : (c : ℕ) (xs : List Action) → AllByRecursion (Everywhere group v c) xs → AllByRecursion (Everywhere group w c) xs
+    stays_everywhere = still_everywhere group v w (λ c z q. omega (arith, same_entry c z q))
 
-    still_everywhere : (c : ℕ) (xs : List Action) → AllByRecursion (Everywhere v c) xs → AllByRecursion (Everywhere w c) xs
-    still_everywhere c xs h = All-weaker (Everywhere v c) (Everywhere w c) (λ x k z q zl ql. omega (arith, k z q zl ql, same_entry c z q)) xs h
-
-    olds_everywhere : AllByRecursion (Everywhere v a) (olds v a)
+    olds_everywhere : AllByRecursion (Everywhere group v a) (olds v a)
     olds_everywhere =
-        All-weaker (λ x. is_old v a x ≡ true) (Everywhere v a) (λ x h z q zl ql.
+        All-weaker (λ x. is_old v a x ≡ true) (Everywhere group v a) (λ x h z q zl ql.
         let sites = sites_are kind group b s of_group v site in
         omega (arith, leb-true x.time (least v a) (and_parts (eqb x.article a) (leb x.time (least v a)) h).1, least_le v a z q (omega (arith, sites)) (omega (arith, sites)))) (olds v a) (kept_by_passes (is_old v a) v.history)
 
@@ -52,7 +48,7 @@ module _ (kind : Meaning) (step_fits : (f : ℤ) (o : ℕ) (a : ℤ) → SFits w
       new_row = row_each (archived_row kind v a) v.rows c (omega (arith, site.sound.each_article, few_articles kind group b s of_group v site))
 
       -- the same actions, of which the first are archived
-      regathered : (xs : List Action) → (row w c).base ≡ working kind.steps kind.starts xs → xs ++ on c w.history ≡ g.archived ++ on c v.history → AllByRecursion (Everywhere w c) xs → Gathered kind group b s w c
+      regathered : (xs : List Action) → (row w c).base ≡ working kind.steps kind.starts xs → xs ++ on c w.history ≡ g.archived ++ on c v.history → AllByRecursion (Everywhere group w c) xs → Gathered kind group b s w c
       regathered xs based together everywhere = record {
         archived = xs;
         based = based;
@@ -67,14 +63,14 @@ module _ (kind : Meaning) (step_fits : (f : ℤ) (o : ℕ) (a : ℤ) → SFits w
           regathered g.archived
           (ap (λ (r : Row). r.base) new_row ∙ cond-false (eqb c a) _ _ (ne_eqb c a other) ∙ g.based)
           (ap (λ l. g.archived ++ l) (archived_others v a c other))
-          (still_everywhere c g.archived g.everywhere)
+          (stays_everywhere c g.archived g.everywhere)
 
       gathered_same : c ≡ a → Gathered kind group b s w c
       gathered_same same =
           regathered (g.archived ++ olds v a)
           (ap (λ (r : Row). r.base) new_row ∙ cond-true (eqb c a) _ _ (eq-eqb c a same) ∙ ap (λ f. working kind.steps f (olds v a)) g.based ∙ sym (working_append kind.steps kind.starts g.archived (olds v a)))
           (append_assoc g.archived (olds v a) (on c w.history) ∙ ap (λ l. g.archived ++ l) parts)
-          (still_everywhere c (g.archived ++ olds v a) (All-append (Everywhere v c) g.archived (olds v a) g.everywhere (subst (λ (n : ℕ). AllByRecursion (Everywhere v n) (olds v a)) (sym same) olds_everywhere)))
+          (stays_everywhere c (g.archived ++ olds v a) (All-append (Everywhere group v c) g.archived (olds v a) g.everywhere (subst (λ (n : ℕ). AllByRecursion (Everywhere group v n) (olds v a)) (sym same) olds_everywhere)))
         where
           parts : olds v a ++ on c w.history ≡ on c v.history
           parts = subst (λ (n : ℕ). olds v a ++ on n w.history ≡ on n v.history) (sym same) (sym (archived_parts v a site.sound.ordered))

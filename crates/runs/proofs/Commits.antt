@@ -21,7 +21,7 @@ use Rattle.table.proofs.Waiting.{waiting_ascending, waiting_distinct, waiting_la
 use Rattle.runs.specs.Books.{Book, own_times, reaching, with_committed, with_pending}
 use Rattle.runs.specs.Runs.{Group}
 use Rattle.runs.proofs.Greatest.{greatest_above, greatest_is}
-use Rattle.runs.proofs.Growing.{Grown, New}
+use Rattle.runs.proofs.Growing.{Grown, New, still_everywhere}
 use Rattle.runs.proofs.Sites.{articles_are, few_articles, own_entry, own_is, reached_clocked}
 use Rattle.runs.proofs.Standing.{Gathered, Account, Reached, Recorded, Site}
 
@@ -193,7 +193,7 @@ module _ (kind : Meaning) (group : Group) (b : Book) (s : ℕ) (of_group : s < g
             (λ old. has_append_left had (on a v.pending) x (g.whole x (was_reached x old r.1 r.2)))
             (λ mine. has_append_right had (on a v.pending) x (has_kept_by (λ y. eqb y.article a) v.pending x (subst (λ (xs : List Action). Has xs x) same mine) (eq-eqb x.article a r.1)))
             (commit_cases x r.0));
-        everywhere = All-weaker (λ x. (z q : ℕ) → z < group.sites → q < group.sites → x.time ≤ entry v a z q) (λ x. (z q : ℕ) → z < group.sites → q < group.sites → x.time ≤ entry w a z q) (λ x h z q zl ql. omega (arith, h z q zl ql, committed_entry_ge kind v site.sound free a z q)) g.archived g.everywhere;
+        everywhere = still_everywhere group v w (committed_entry_ge kind v site.sound free) a g.archived g.everywhere;
       }
 
     pub commit_site : Site kind group after s w

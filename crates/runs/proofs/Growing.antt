@@ -17,7 +17,7 @@ use Rattle.runs.specs.Events.{Call, Event, wrote}
 use Rattle.runs.specs.Events.Call.{Opens, Writes, Commits, Abandons, Offers, Takes, Archives}
 use Rattle.runs.specs.Runs.{Group, Turn}
 use Rattle.runs.proofs.Greatest.{greatest_ge}
-use Rattle.runs.proofs.Standing.{Absorbed, Credits, Gathered, Account, Recorded, Sent, Site, Standing, Told, Truthful}
+use Rattle.runs.proofs.Standing.{Absorbed, Credits, Everywhere, Gathered, Account, Recorded, Sent, Site, Standing, Told, Truthful}
 
 -- an action that the site commits now: it is later than all that the site has
 pub record New (group : Group) (s : ℕ) (b after : Book) (x : Action) : Type 0 where
@@ -152,6 +152,12 @@ module _ (kind : Meaning) (group : Group) (s : ℕ) (of_group : s < group.sites)
 
   pub still_told : (bytes : List ℕ) → Told kind group b bytes → Told kind group after bytes
   still_told bytes = ⊎_elim (λ none. inl none) (λ h. inr (h.0, h.1, still_true bytes h.0 h.1 h.2))
+
+-- WHAT WAS ARCHIVED
+
+-- where no entry is lowered it stays known to be everywhere
+pub still_everywhere : (group : Group) (v w : View) → ((a z q : ℕ) → entry v a z q ≤ entry w a z q) → (a : ℕ) (xs : List Action) → AllByRecursion (Everywhere group v a) xs → AllByRecursion (Everywhere group w a) xs
+still_everywhere group v w kept a = All-weaker (Everywhere group v a) (Everywhere group w a) (λ x h z q zl ql. omega (arith, h z q zl ql, kept a z q))
 
 -- WHAT WAS TAKEN
 

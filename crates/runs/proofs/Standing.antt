@@ -34,6 +34,10 @@ pub record Account (group : Group) (b : Book) : Type 0 where
 
 -- ONE SITE
 
+-- by this table every site has the action on the article, and all before it
+abbrev pub Everywhere : Group → View → ℕ → Action → Type 0
+Everywhere group v a x = (z q : ℕ) → z < group.sites → q < group.sites → x.time ≤ entry v a z q
+
 -- of an article a site has what it has archived, and after that, in order, what its history holds
 pub record Gathered (kind : Meaning) (group : Group) (b : Book) (s : ℕ) (v : View) (a : ℕ) : Type 0 where
   pub archived : List Action
@@ -42,7 +46,7 @@ pub record Gathered (kind : Meaning) (group : Group) (b : Book) (s : ℕ) (v : V
   pub sure : (x : Action) → Has (archived ++ on a v.history) x → Reached b s a x
   pub whole : (x : Action) → Reached b s a x → Has (archived ++ on a v.history) x
   -- what was archived is known to be everywhere
-  pub everywhere : AllByRecursion (λ x. (z q : ℕ) → z < group.sites → q < group.sites → x.time ≤ entry v a z q) archived
+  pub everywhere : AllByRecursion (Everywhere group v a) archived
 
 -- the site's table is sound, and says what the book says; it believes nothing that is not so
 pub record Site (kind : Meaning) (group : Group) (b : Book) (s : ℕ) (v : View) : Type 0 where

@@ -35,10 +35,10 @@ use Rattle.runs.specs.Events.{Event, at, wrote}
 use Rattle.runs.specs.Events.Call.{Takes}
 use Rattle.runs.specs.Runs.{Group, Turn}
 use Rattle.runs.proofs.Greatest.{greatest_ge, greatest_le}
-use Rattle.runs.proofs.Growing.{Grown, stands_after}
+use Rattle.runs.proofs.Growing.{Grown, stands_after, still_everywhere}
 use Rattle.runs.proofs.Opening.{stands_still}
 use Rattle.runs.proofs.Sites.{articles_are, own_entry, own_is, sites_are}
-use Rattle.runs.proofs.Standing.{Credits, Gathered, Account, Reached, Recorded, Sent, Site, Standing, Told, Truthful}
+use Rattle.runs.proofs.Standing.{Account, Credits, Everywhere, Gathered, Reached, Recorded, Sent, Site, Standing, Told, Truthful}
 
 -- the site takes this message, which is true, and reaches the times that its intervals say
 module _ (kind : Meaning) (group : Group) (s : ℕ) (b : Book) (v : View) (m : Message) (times : ℕ → ℕ → ℕ) (of_group : s < group.sites) (site : Site kind group b s v) (lawful : LawfulMessage kind v.setup m) (truthful : Truthful b m) (times-are : (a q : ℕ) → times a q ≡ highest a q (stretches m)) where
@@ -166,7 +166,7 @@ module _ (kind : Meaning) (group : Group) (s : ℕ) (b : Book) (v : View) (m : M
         ⊎_elim
         (λ old. leads_has x (on a v.history) y (all-has (λ x. Leads x (on a v.history)) g.archived x (ascending_parts g.archived (on a v.history) g.ordered).2 hx) old)
         (λ new.
-        let everywhere = all-has (λ x. (z q : ℕ) → z < group.sites → q < group.sites → x.time ≤ entry v a z q) g.archived x g.everywhere hx in
+        let everywhere = all-has (Everywhere group v a) g.archived x g.everywhere hx in
         let here = on_it y hy in
         precedes_by_time x y (omega (arith, everywhere s y.coordinator of_group (coordinated y here.0), new_later y new here.1)))
         (came y hy)
@@ -227,7 +227,7 @@ module _ (kind : Meaning) (group : Group) (s : ℕ) (b : Book) (v : View) (m : M
       ordered = ordered;
       sure = sure;
       whole = whole account;
-      everywhere = All-weaker (λ x. (z q : ℕ) → z < group.sites → q < group.sites → x.time ≤ entry v a z q) (λ x. (z q : ℕ) → z < group.sites → q < group.sites → x.time ≤ entry w a z q) (λ x h z q zl ql. omega (arith, h z q zl ql, taken_ge kind v m site.sound lawful a z q)) g.archived g.everywhere;
+      everywhere = still_everywhere group v w (taken_ge kind v m site.sound lawful) a g.archived g.everywhere;
     }
 
   pub take_site : take_refusal v m ≡ None → Sound kind w → Account group b → Site kind group after s w

@@ -1,14 +1,13 @@
 -- What a slot holds after a granted or refused move or offer, and that the slots of a new desk are empty.
-use Rattle.std.proofs.Common.{◌≡◌, ℕ, zero, suc, ◌+◌, ◌<◌, List, [], ◌∷◌, length, get_or, take, drop, replicate, ℤ, Some, None, Ok, Err, Result, MatchResult, IsOkAnd, subst, sym, refl, ap, ◌∙◌, arith}
-use Rattle.std.proofs.lemmas.List.{take_at}
+use Rattle.std.proofs.Common.{◌≡◌, ℕ, zero, suc, ◌<◌, List, [], ◌∷◌, length, get_or, take, replicate, ℤ, Some, None, Ok, Err, Result, MatchResult, IsOkAnd, subst, sym, refl, ap, ◌∙◌, arith}
 use Rattle.action.specs.declared.refusals.Refusal.{Refusal}
 use Rattle.kind.specs.Meanings.{on_hand}
-use Rattle.message.specs.Buffer.{overwritten}
 use Rattle.table.specs.Offers.{offer_bytes, offer_refusal}
 use Rattle.table.specs.declared.faults.TableFault.{TableFault}
 use Rattle.table.specs.declared.tickets.Ticket.{Ticket}
 use Rattle.table.specs.Transactions.{Committed, Opened, Wrote, abandoned, commit_refusal, committed, fitting, new_action, next_time, opened, transaction_bytes, write_refusal, written}
 use Rattle.table.specs.View.{View}
+use Rattle.runs.proofs.Writing.{written_back}
 use Rattle.script.specs.declared.answers.Answer.TheVariants.{Time, Length}
 use Rattle.script.specs.Acts.{Outcome, decided, moved_opened, moved_written, moved, offered, refused_at}
 use Rattle.script.specs.Slots.{blank}
@@ -17,9 +16,6 @@ use Rattle.script.specs.Slots.{blank}
 pub blank_is : replicate 1200 0 ≡ blank
 unfolding blank
 blank_is = refl
-
-pub held_written : (buffer bytes : List ℕ) (n : ℕ) → n ≡ length bytes → take n (overwritten buffer 0 bytes) ≡ bytes
-held_written buffer bytes n e = take_at bytes (drop (0 + length bytes) buffer) n (sym e)
 
 -- slots that hold nothing
 pub all_empty : (slots : List (List ℕ)) (n : ℕ) → length slots ≡ n → ((i : ℕ) (none : List ℕ) → i < n → get_or slots i none ≡ []) → slots ≡ replicate n []
@@ -48,7 +44,7 @@ move_granted v w u after t article amount time k n slot end first second third =
     let message = fitting (transaction_bytes on_hand u) blank in
     let done : Outcome = record { table = committed on_hand u; slot = message; answer = Ok (Time time) } in
     let left : record { table = after; slot = take n end; answer = Ok (Time time) } ≡ done =
-    (λ i. record { table = third.3 i; slot = (ap (take n) third.4 ∙ held_written blank message n third.2) i; answer = Ok (Time time) })
+    (λ i. record { table = third.3 i; slot = written_back blank message end n third.2 third.4 i; answer = Ok (Time time) })
     in
     let committing : moved_written v u time slot ≡ done = ap (λ o. decided o (refused_at (abandoned u) slot) done) (ap (commit_refusal on_hand u) (sym first.1) ∙ third.0) in
     let writing : moved_opened v w article amount slot ≡ moved_written v u time slot =

@@ -16,6 +16,7 @@ use Rattle.table.specs.View.{View}
 use Rattle.runs.specs.Events.{Call, Does, Event, at}
 use Rattle.runs.specs.Events.Call.{Opens, Writes, Commits, Abandons, Offers, Takes}
 use Rattle.runs.specs.Runs.{Honest, Group, Ran}
+use Rattle.runs.proofs.Writing.{written_back}
 use Rattle.script.specs.declared.answers.Answer.TheVariants.{Time, Length}
 use Rattle.script.specs.declared.commands.Command.{Command}
 use Rattle.script.specs.declared.commands.Command.TheVariants.{Move, Offer}
@@ -25,7 +26,6 @@ use Rattle.script.specs.Slots.{blank}
 use Rattle.script.specs.Standing.{Kept, Makes}
 use Rattle.script.specs.Standing.Makes.{moves, commit_refused, write_refused, offers}
 use Rattle.script.proofs.Further.{as_it_is, further, kept_after, kept_now}
-use Rattle.script.proofs.Held.{held_written}
 use Rattle.script.proofs.Refused.{by_decision, commit_faults, commit_number, offer_faults, write_faults, write_number}
 
 -- a table's open transaction has its own ticket
@@ -112,7 +112,7 @@ module _ (group : Group) (three : group.sites ≡ 3) (run : List Event) (d : Des
           at site commits ∷ (at site (writes (Ok (next_time u))) ∷ (at site opens ∷ [])),
           moves site article slot amount t (next_time u) (overwritten blank 0 message) (length x.pending, length message),
           on so_far commits x (committed on_hand x) write_ran (can_commit, refl, refl, refl, refl) tt,
-          kept_now (at site commits) so_far message (held_written blank message (length message) refl),
+          kept_now (at site commits) so_far message (written_back blank message (overwritten blank 0 message) (length message) refl refl),
           refl,
           tt,
         )
@@ -157,7 +157,7 @@ module _ (group : Group) (three : group.sites ≡ 3) (run : List Event) (d : Des
     offer_granted_goes : offer_refusal on_hand v peer article blank ≡ None → Goes offer held (record { table = v; slot = bytes; answer = Ok (Length (length bytes)) })
     offer_granted_goes can_offer =
         let call : Call = Offers peer article blank (Ok (length bytes)) (overwritten blank 0 bytes) in
-        (at site call ∷ [], offers site peer article slot (overwritten blank 0 bytes) (Ok (length bytes)), on run call v v start ((can_offer, refl, refl), refl) tt, kept_now (at site call) run bytes (held_written blank bytes (length bytes) refl), shut, tt)
+        (at site call ∷ [], offers site peer article slot (overwritten blank 0 bytes) (Ok (length bytes)), on run call v v start ((can_offer, refl, refl), refl) tt, kept_now (at site call) run bytes (written_back blank bytes (overwritten blank 0 bytes) (length bytes) refl refl), shut, tt)
 
     offer_refused_goes : (e : TableFault) → offer_refusal on_hand v peer article blank ≡ Some (shown e) → Goes offer held (refused_at v held (shown e))
     offer_refused_goes e is =

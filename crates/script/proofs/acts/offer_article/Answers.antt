@@ -1,11 +1,12 @@
-use Rattle.std.proofs.Common.{take, Ok, Err, sym, ap, ◌∙◌}
+use Rattle.std.proofs.Common.{Ok, Err, sym, ap, ◌∙◌}
 use Rattle.std.proofs.lemmas.Result.{err_from_is_err_and}
 use Rattle.kind.specs.Meanings.{on_hand}
 use Rattle.table.specs.Offers.{offer_bytes, offer_refusal}
+use Rattle.runs.proofs.Writing.{written_back}
 use Rattle.script.specs.declared.answers.Answer.TheVariants.{Length}
 use Rattle.script.specs.Acts.{answered}
 use Rattle.script.specs.Faults.{number_of}
-use Rattle.script.proofs.Held.{blank_is, held_written, offer_granted, offer_refused}
+use Rattle.script.proofs.Held.{blank_is, offer_granted, offer_refused}
 use Rattle.script.proofs.acts.offer_article.Goals as goal
 
 pub returns-in_err-length : goal.returns-in_err-length
@@ -22,4 +23,4 @@ returns c =
     let told = c.in_ok-length.ensures.does in
     let n = c.in_ok-length.length in
     let bytes = offer_bytes on_hand v c.args.peer c.args.article in
-    (λ i. record { table = v; slot = (c.keep.ensures ∙ ap (take n) told.2 ∙ held_written _ bytes n told.1) i; answer = Ok (Length (told.1 i)) }) ∙ offer_granted v c.args.peer c.args.article c.args.slot.now (ap (offer_refusal on_hand v c.args.peer c.args.article) (sym blank_is) ∙ told.0)
+    (λ i. record { table = v; slot = (c.keep.ensures ∙ written_back _ bytes _ n told.1 told.2) i; answer = Ok (Length (told.1 i)) }) ∙ offer_granted v c.args.peer c.args.article c.args.slot.now (ap (offer_refusal on_hand v c.args.peer c.args.article) (sym blank_is) ∙ told.0)
