@@ -93,11 +93,11 @@ module _ (kind : Meaning) (step_fits : (f : ℤ) (o : ℕ) (a : ℤ) → SFits w
         let of_group = turn.of_group in
         let b : Book = book group before in
         let site = st.sites s of_group in
-        let is-after : views s ≡ archived kind (old s) article = turn.does.2 in
-        let sound : Sound kind (archived kind (old s) article) = subst (Sound kind) is-after (archive_keeps kind step_fits (old s) (views s) site.sound article (Ok n) turn.does) in
+        let is_after : views s ≡ archived kind (old s) article = turn.does.2 in
+        let sound : Sound kind (archived kind (old s) article) = subst (Sound kind) is_after (archive_keeps kind step_fits (old s) (views s) site.sound article (Ok n) turn.does) in
         stands_after kind group before (at s (Archives article (Ok n))) old views turn st
         (grown_pending kind group s of_group b b.pending (λ z ne. refl) st.account)
-        (subst (Site kind group b s) (sym is-after) (archive_site group s b (old s) article of_group site sound))
-        (λ a z q. omega (arith, ap (λ (u : View). entry u a z q) is-after, same_entry group s b (old s) article of_group site a z q))
+        (subst (Site kind group b s) (sym is_after) (archive_site group s b (old s) article of_group site sound))
+        (λ a z q. omega (arith, ap (λ (u : View). entry u a z q) is_after, same_entry group s b (old s) article of_group site a z q))
         (inl refl)
         tt

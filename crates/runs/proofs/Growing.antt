@@ -63,8 +63,8 @@ module _ (kind : Meaning) (group : Group) (s : ℕ) (of_group : s < group.sites)
   -- THE BOOK
 
   all_apart : (x y : Action) → Recorded group b x → New group s b after y → Apart x y
-  all_apart x y old new same-coordinator same-time =
-      let is : x.coordinator ≡ s = same-coordinator ∙ new.own in
+  all_apart x y old new same_coordinator same_time =
+      let is : x.coordinator ≡ s = same_coordinator ∙ new.own in
       let had : x.time ≤ b.reach s x.article s = subst (λ (n : ℕ). x.time ≤ b.reach n x.article n) is old.had in
       let later = new.later in
       omega (arith, greatest_ge group b s x.article s old.listed of_group)
@@ -139,13 +139,13 @@ module _ (kind : Meaning) (group : Group) (s : ℕ) (of_group : s < group.sites)
     still_true : Truthful b m → Truthful after m
     still_true t = record {
       sender_has = All-weaker (λ h. h.1.to ≤ b.reach m.sender h.0 h.1.site) (λ h. h.1.to ≤ after.reach m.sender h.0 h.1.site) (λ h k. omega (arith, k, reach_grows m.sender h.0 h.1.site)) (stretches m) t.sender_has;
-      whole = all_from_has _ (stretches m) (λ h k x has on_it of-it after-from up_to_lem.
+      whole = all_from_has _ (stretches m) (λ h k x has on_it of_it after_from up_to.
           ⊎_elim
-          (λ old. all-has _ (stretches m) h t.whole k x old on_it of-it after-from up_to_lem)
+          (λ old. all-has _ (stretches m) h t.whole k x old on_it of_it after_from up_to)
           (λ n.
-          let mine : h.1.site ≡ s = sym of-it ∙ n.own in
+          let mine : h.1.site ≡ s = sym of_it ∙ n.own in
           let within : h.1.to ≤ b.reach m.sender h.0 s = subst (λ (q : ℕ). h.1.to ≤ b.reach m.sender h.0 q) mine (all-has (λ h. h.1.to ≤ b.reach m.sender h.0 h.1.site) (stretches m) h t.sender_has k) in
-          absurd (beyond_old x n m.sender h.0 h.1.to sender_lt (all-has Listed (stretches m) h listed k).0 within up_to_lem))
+          absurd (beyond_old x n m.sender h.0 h.1.to sender_lt (all-has Listed (stretches m) h listed k).0 within up_to))
           (now_committed x has));
       sure = All-weaker (Has b.committed) (Has after.committed) was_committed (carried m) t.sure;
     }

@@ -54,8 +54,8 @@ module _ (kind : Meaning) (group : Group) (b : Book) (s : ℕ) (of_group : s < g
   offer_true l = record {
     sender_has = each_interval (λ h. h.1.to ≤ b.reach own h.0 h.1.site) (λ q ql.
         subst (λ (n : ℕ). entry v a own q ≤ b.reach n a q) (sym (own_is kind group b s of_group v site)) (omega (arith, own_entry kind group b s of_group v site a q al ql)));
-    whole = each_interval (λ h. (x : Action) → Has b.committed x → x.article ≡ h.0 → x.coordinator ≡ h.1.site → h.1.from < x.time → x.time ≤ h.1.to → Has (carried m) x) (λ q ql x has on_it of-it above up_to.
-        offered x (has, on_it, subst (λ (n : ℕ). x.time ≤ b.reach s a n) (sym of-it) (omega (arith, up_to, own_entry kind group b s of_group v site a q al ql))) (all-has (Recorded group b) b.committed x l.each has).coordinated (subst (λ (n : ℕ). entry v a p n < x.time) (sym of-it) above));
+    whole = each_interval (λ h. (x : Action) → Has b.committed x → x.article ≡ h.0 → x.coordinator ≡ h.1.site → h.1.from < x.time → x.time ≤ h.1.to → Has (carried m) x) (λ q ql x has on_it of_it above up_to.
+        offered x (has, on_it, subst (λ (n : ℕ). x.time ≤ b.reach s a n) (sym of_it) (omega (arith, up_to, own_entry kind group b s of_group v site a q al ql))) (all-has (Recorded group b) b.committed x l.each has).coordinated (subst (λ (n : ℕ). entry v a p n < x.time) (sym of_it) above));
     sure = All-append (Has b.committed) (filter (is_offered v p a) v.history) [] (all_from_has (Has b.committed) (filter (is_offered v p a) v.history) (λ x h.
         let parts = has_kept_by_parts (is_offered v p a) v.history x h in
         let on_it = (and_parts (eqb x.article a) _ parts.1).0 in

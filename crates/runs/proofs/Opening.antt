@@ -62,24 +62,24 @@ module _ (kind : Meaning) (group : Group) (before : List Event) (s : ℕ) (old v
   -- THE BOOK AND THE TABLES STAY
 
   pub stands_still : (call : Call) → Turn kind group before (at s call) old views → book group (at s call ∷ before) ≡ b → views s ≡ old s → Told kind group b (wrote call) → Absorbed kind group s (views s) call → Standing kind group (at s call ∷ before) views
-  stands_still call turn same-book same_view told absorbed =
+  stands_still call turn same_book same_view told absorbed =
       let of_group = turn.of_group in
       stands_after kind group before (at s call) old views turn st
-      (subst (Grown group s b) (sym same-book) (grown_pending kind group s of_group b b.pending (λ z ne. refl) st.account))
-      (subst (λ (after : Book). Site kind group after s (views s)) (sym same-book) (subst (Site kind group b s) (sym same_view) (st.sites s of_group)))
+      (subst (Grown group s b) (sym same_book) (grown_pending kind group s of_group b b.pending (λ z ne. refl) st.account))
+      (subst (λ (after : Book). Site kind group after s (views s)) (sym same_book) (subst (Site kind group b s) (sym same_view) (st.sites s of_group)))
       (λ a z q. omega (arith, ap (λ (v : View). entry v a z q) same_view))
-      (subst (λ (after : Book). Told kind group after (wrote call)) (sym same-book) told)
+      (subst (λ (after : Book). Told kind group after (wrote call)) (sym same_book) told)
       absorbed
 
   -- THE TRANSACTION CHANGES
 
   module _ (call : Call) (turn : Turn kind group before (at s call) old views) (pending : ℕ → List Action) (is_open : Bool) (xs : List Action) where
     stands_pending : book group (at s call ∷ before) ≡ with_pendings pending b → views s ≡ with_transaction is_open xs (old s) → Sound kind (views s) → pending s ≡ xs → ((z : ℕ) → (z ≡ s → ⊥) → pending z ≡ b.pending z) → wrote call ≡ [] → Absorbed kind group s (views s) call → Standing kind group (at s call ∷ before) views
-    stands_pending the-book the_view sound is others none absorbed =
+    stands_pending the_book the_view sound is others none absorbed =
         let of_group = turn.of_group in
         stands_after kind group before (at s call) old views turn st
-        (subst (Grown group s b) (sym the-book) (grown_pending kind group s of_group b pending others st.account))
-        (subst (λ (after : Book). Site kind group after s (views s)) (sym the-book) (subst (Site kind group (with_pendings pending b) s) (sym the_view) (site_pending kind group s of_group b pending (old s) is_open xs (st.sites s of_group) (subst (Sound kind) the_view sound) is)))
+        (subst (Grown group s b) (sym the_book) (grown_pending kind group s of_group b pending others st.account))
+        (subst (λ (after : Book). Site kind group after s (views s)) (sym the_book) (subst (Site kind group (with_pendings pending b) s) (sym the_view) (site_pending kind group s of_group b pending (old s) is_open xs (st.sites s of_group) (subst (Sound kind) the_view sound) is)))
         (λ a z q. omega (arith, ap (λ (v : View). entry v a z q) the_view))
         (inl none)
         absorbed

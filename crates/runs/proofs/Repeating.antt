@@ -105,8 +105,8 @@ module _ (kind : Meaning) (small : kind.number ≤ 255) (group : Group) (events 
       let v : View = views s in
       let site = st.sites s now.0 in
       let known : Message = now.1.0 in
-      let lawful-here : LawfulMessage kind v.setup known = subst (λ (u : Setup). LawfulMessage kind u known) (sym site.setup_is) (now.1.1.lawful s now.0) in
-      let same : known ≡ m = messages_unique kind v.setup small bytes known m lawful-here lawful now.1.1.is is in
+      let lawful_here : LawfulMessage kind v.setup known = subst (λ (u : Setup). LawfulMessage kind u known) (sym site.setup_is) (now.1.1.lawful s now.0) in
+      let same : known ≡ m = messages_unique kind v.setup small bytes known m lawful_here lawful now.1.1.is is in
       let here : Credits v v.setup.own m = subst (λ (k : Message). Credits v v.setup.own k) same (subst (λ (z : ℕ). Credits v z known) (sym (own_is kind group _ s now.0 v site)) now.1.2) in
       let there : Credits v m.sender m = subst (λ (k : Message). Credits v k.sender k) same now.1.3 in
       (left ∙ taken_again kind v site.sound m lawful here there, λ k e. let none = nothing_new kind v site.sound m lawful here there in let same_count : n ≡ k = cc in omega (arith, same_count, count, ap length none))

@@ -41,7 +41,7 @@ use Rattle.runs.proofs.Sites.{articles_are, own_entry, own_is, sites_are}
 use Rattle.runs.proofs.Standing.{Account, Credits, Everywhere, Gathered, Reached, Recorded, Sent, Site, Standing, Told, Truthful}
 
 -- the site takes this message, which is true, and reaches the times that its intervals say
-module _ (kind : Meaning) (group : Group) (s : ℕ) (b : Book) (v : View) (m : Message) (times : ℕ → ℕ → ℕ) (of_group : s < group.sites) (site : Site kind group b s v) (lawful : LawfulMessage kind v.setup m) (truthful : Truthful b m) (times-are : (a q : ℕ) → times a q ≡ highest a q (stretches m)) where
+module _ (kind : Meaning) (group : Group) (s : ℕ) (b : Book) (v : View) (m : Message) (times : ℕ → ℕ → ℕ) (of_group : s < group.sites) (site : Site kind group b s v) (lawful : LawfulMessage kind v.setup m) (truthful : Truthful b m) (times_are : (a q : ℕ) → times a q ≡ highest a q (stretches m)) where
   abbrev after : Book
   after = reaching s times b
 
@@ -70,7 +70,7 @@ module _ (kind : Meaning) (group : Group) (s : ℕ) (b : Book) (v : View) (m : M
   -- THE BOOK
 
   reach_own : (a q : ℕ) → after.reach s a q ≡ max (b.reach s a q) (far a q)
-  reach_own a q = cond-true (eqb s s) _ _ (eq-eqb s s refl) ∙ ap (max (b.reach s a q)) (times-are a q)
+  reach_own a q = cond-true (eqb s s) _ _ (eq-eqb s s refl) ∙ ap (max (b.reach s a q)) (times_are a q)
 
   reach_other : (z : ℕ) → (z ≡ s → ⊥) → after.reach z ≡ b.reach z
   reach_other z ne = λ i a q. cond (ne_eqb z s ne i) (max (b.reach z a q) (times a q)) (b.reach z a q)
@@ -81,8 +81,8 @@ module _ (kind : Meaning) (group : Group) (s : ℕ) (b : Book) (v : View) (m : M
   -- the sender has all of it
   far_le : (a q : ℕ) → far a q ≤ b.reach m.sender a q
   far_le a q =
-      highest_le a q (stretches m) (b.reach m.sender a q) (All-weaker (λ h. h.1.to ≤ b.reach m.sender h.0 h.1.site) (λ h. (h.0 ≡ a) → (h.1.site ≡ q) → h.1.to ≤ b.reach m.sender a q) (λ h k on_it of-it.
-      subst (λ (n : ℕ). h.1.to ≤ b.reach m.sender a n) of-it (subst (λ (n : ℕ). h.1.to ≤ b.reach m.sender n h.1.site) on_it k)) (stretches m) truthful.sender_has)
+      highest_le a q (stretches m) (b.reach m.sender a q) (All-weaker (λ h. h.1.to ≤ b.reach m.sender h.0 h.1.site) (λ h. (h.0 ≡ a) → (h.1.site ≡ q) → h.1.to ≤ b.reach m.sender a q) (λ h k on_it of_it.
+      subst (λ (n : ℕ). h.1.to ≤ b.reach m.sender a n) of_it (subst (λ (n : ℕ). h.1.to ≤ b.reach m.sender n h.1.site) on_it k)) (stretches m) truthful.sender_has)
 
   pub take_grows : Account group b → Grown group s b after
   take_grows account = record {
@@ -216,9 +216,9 @@ module _ (kind : Meaning) (group : Group) (s : ℕ) (b : Book) (v : View) (m : M
             let behind = all-has (λ h. h.1.from ≤ entry v h.0 own h.1.site) (stretches m) (a, i) (begun_within v m passes) up.1 in
             let had : entry v a own i.site ≡ b.reach s a q = ap (entry v a own) up.2 ∙ own_entry kind group b s of_group v site a q al ql in
             let from : i.from < x.time = omega (arith, behind, had) in
-            let is_Carried = all-has (λ h. (x : Action) → Has b.committed x → x.article ≡ h.0 → x.coordinator ≡ h.1.site → h.1.from < x.time → x.time ≤ h.1.to → Has (carried m) x) (stretches m) (a, i) truthful.whole up.1 x r.0 r.1 (sym up.2) from (omega (arith, up.3)) in
-            let is-new : entry v x.article own q < x.time = subst (λ (c : ℕ). entry v c own q < x.time) (sym r.1) (omega (arith, own_entry kind group b s of_group v site a q al ql)) in
-            arrives x (inr (has_kept_by (is_new v) (carried m) x is_Carried (lt-ltb (entry v x.article own q) x.time is-new))) r.1
+            let is_carried = all-has (λ h. (x : Action) → Has b.committed x → x.article ≡ h.0 → x.coordinator ≡ h.1.site → h.1.from < x.time → x.time ≤ h.1.to → Has (carried m) x) (stretches m) (a, i) truthful.whole up.1 x r.0 r.1 (sym up.2) from (omega (arith, up.3)) in
+            let newer : entry v x.article own q < x.time = subst (λ (c : ℕ). entry v c own q < x.time) (sym r.1) (omega (arith, own_entry kind group b s of_group v site a q al ql)) in
+            arrives x (inr (has_kept_by (is_new v) (carried m) x is_carried (lt-ltb (entry v x.article own q) x.time newer))) r.1
 
     gathered : Account group b → Gathered kind group after s w a
     gathered account = record {
@@ -273,14 +273,14 @@ module _ (kind : Meaning) (step_fits : (f : ℤ) (o : ℕ) (a : ℤ) → SFits w
         let took = turn.does.1 in
         let m : Message = took.0 in
         let lawful = took.1 in
-        let is-after = took.5 in
+        let is_after = took.5 in
         let both = true_message of_group bytes turn.honest m lawful took.2 in
         let read = times_read kind small (old s).setup m lawful bytes took.2 in
-        let sound : Sound kind (taken kind (old s) m) = subst (Sound kind) is-after (take_keeps kind step_fits commute (old s) (views s) site.sound bytes (Ok n) turn.does) in
-        let credits : (z : ℕ) → (z ≡ (old s).setup.own) ⊎ (z ≡ m.sender) → Credits (views s) z m = λ z is. subst (λ (u : View). Credits u z m) (sym is-after) (take_credits kind group s told_book (old s) m (taken_times bytes) of_group site lawful both.1 read z is) in
+        let sound : Sound kind (taken kind (old s) m) = subst (Sound kind) is_after (take_keeps kind step_fits commute (old s) (views s) site.sound bytes (Ok n) turn.does) in
+        let credits : (z : ℕ) → (z ≡ (old s).setup.own) ⊎ (z ≡ m.sender) → Credits (views s) z m = λ z is. subst (λ (u : View). Credits u z m) (sym is_after) (take_credits kind group s told_book (old s) m (taken_times bytes) of_group site lawful both.1 read z is) in
         stands_after kind group before (at s (Takes bytes (Ok n))) old views turn st
         (take_grows kind group s told_book (old s) m (taken_times bytes) of_group site lawful both.1 read st.account)
-        (subst (Site kind group (reaching s (taken_times bytes) told_book) s) (sym is-after) (take_site kind group s told_book (old s) m (taken_times bytes) of_group site lawful both.1 read took.3 sound st.account))
-        (λ a z q. subst (λ (u : View). entry (old s) a z q ≤ entry u a z q) (sym is-after) (taken_ge kind (old s) m site.sound lawful a z q))
+        (subst (Site kind group (reaching s (taken_times bytes) told_book) s) (sym is_after) (take_site kind group s told_book (old s) m (taken_times bytes) of_group site lawful both.1 read took.3 sound st.account))
+        (λ a z q. subst (λ (u : View). entry (old s) a z q ≤ entry u a z q) (sym is_after) (taken_ge kind (old s) m site.sound lawful a z q))
         (inl refl)
         (m, both.0, credits s (inl (sym (own_is kind group told_book s of_group (old s) site))), credits m.sender (inr refl))

@@ -65,9 +65,9 @@ module _ (kind : Meaning) (group : Group) (b : Book) (s : ℕ) (of_group : s < g
   transaction_true = record {
     sender_has = each_interval (λ h. h.1.to ≤ then.reach own h.0 h.1.site) (λ a h.
         subst (λ (n : ℕ). (interval a).to ≤ then.reach n a n) (sym own_s) (omega (arith, own_before a (listed a h), commit_reach_own kind group b s of_group v site l a, ap (latest a) site.pending_is)));
-    whole = each_interval (λ h. (x : Action) → Has then.committed x → x.article ≡ h.0 → x.coordinator ≡ h.1.site → h.1.from < x.time → x.time ≤ h.1.to → Has (carried m) x) (λ a h x has on_it of-it above up_to_lem.
+    whole = each_interval (λ h. (x : Action) → Has then.committed x → x.article ≡ h.0 → x.coordinator ≡ h.1.site → h.1.from < x.time → x.time ≤ h.1.to → Has (carried m) x) (λ a h x has on_it of_it above up_to.
         ⊎_elim
-        (λ old. absurd (omega (arith, above, own_before a (listed a h), subst (λ (c : ℕ). x.time ≤ b.reach s c s) on_it (old_own kind group b s of_group v site l x old (of-it ∙ own_s)))))
+        (λ old. absurd (omega (arith, above, own_before a (listed a h), subst (λ (c : ℕ). x.time ≤ b.reach s c s) on_it (old_own kind group b s of_group v site l x old (of_it ∙ own_s)))))
         (λ mine. has_joined (λ c. c.actions) m.sections (transaction_section v a) x (has_map (transaction_section v) (written_articles v) a h) (has_kept_by (λ y. eqb y.article a) v.pending x (subst (λ (xs : List Action). Has xs x) site.pending_is mine) (eq-eqb x.article a on_it)))
         (has_append_cases b.committed (b.pending s) x has));
     sure = all_joined (λ c. c.actions) (Has then.committed) m.sections (each_section (λ c. AllByRecursion (Has then.committed) c.actions) (λ a h.

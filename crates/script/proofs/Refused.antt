@@ -40,8 +40,8 @@ offer_faults v peer article buffer =
 
 -- where a call is refused by a fault, and where it is not
 pub by_decision : {X : Type 0} (P : X → Type 0) (o : Option Refusal) (refused : Refusal → X) (granted : X) → IfSome o Fault → ((e : TableFault) → o ≡ Some (shown e) → P (refused (shown e))) → (o ≡ None → P granted) → P (decided o refused granted)
-by_decision P None refused granted faults when-refused when-granted = when-granted refl
-by_decision P (Some r) refused granted (e, is) when-refused when-granted = subst (λ (y : Refusal). P (refused y)) is (when-refused e (ap Some (sym is)))
+by_decision P None refused granted faults when_refused when_granted = when_granted refl
+by_decision P (Some r) refused granted (e, is) when_refused when_granted = subst (λ (y : Refusal). P (refused y)) is (when_refused e (ap Some (sym is)))
 
 -- THE NUMBERS OF A MOVEMENT
 

@@ -7,10 +7,10 @@ use Rattle.script.specs.Acts.{Outcome, Reply}
 use Rattle.script.specs.Desk.{ActsAt, SiteTurn, settled}
 
 -- a command that writes into slot k
-pub settled_in : (slots : List (List ℕ)) (slot k : ℕ) (none now-held : List ℕ) (f : List ℕ → Outcome) (after : View) (a : Reply) → k ≡ slot → slot < length slots → record { table = after; slot = now-held; answer = a } ≡ f (get_or slots k none) → record { table = after; slots = set slots k now-held; answer = a } ≡ settled slots slot (f (get_or slots slot []))
-settled_in slots slot k none now-held f after a same within e =
+pub settled_in : (slots : List (List ℕ)) (slot k : ℕ) (none now_held : List ℕ) (f : List ℕ → Outcome) (after : View) (a : Reply) → k ≡ slot → slot < length slots → record { table = after; slot = now_held; answer = a } ≡ f (get_or slots k none) → record { table = after; slots = set slots k now_held; answer = a } ≡ settled slots slot (f (get_or slots slot []))
+settled_in slots slot k none now_held f after a same within e =
     let got : get_or slots k none ≡ get_or slots slot [] = ap (λ n. get_or slots n none) same ∙ get_or_default slots slot none [] within in
-    (λ i. record { table = after; slots = set slots (same i) now-held; answer = a }) ∙ ap (settled slots slot) (e ∙ ap f got)
+    (λ i. record { table = after; slots = set slots (same i) now_held; answer = a }) ∙ ap (settled slots slot) (e ∙ ap f got)
 
 -- a command under its variant's name
 pub as_named : (v : View) (slots : List (List ℕ)) (c named : Command) (t : SiteTurn) → c ≡ named → ActsAt v slots named t → ActsAt v slots c t

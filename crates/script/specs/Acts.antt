@@ -81,7 +81,7 @@ answered (Err e) = Err (number_of e)
 -- what the two commands that write into a slot leave and answer
 
 abbrev pub Moved : View → ℕ → ℤ → List ℕ → Result Answer LineFault → View → List ℕ → Type 0
-Moved v article amount slot r after now-held = record { table = after; slot = now-held; answer = answered r } ≡ moved v article amount slot
+Moved v article amount slot r after now_held = record { table = after; slot = now_held; answer = answered r } ≡ moved v article amount slot
 
 abbrev pub Offered : View → ℕ → ℕ → List ℕ → Result Answer LineFault → List ℕ → Type 0
-Offered v peer article slot r now-held = record { table = v; slot = now-held; answer = answered r } ≡ offered v peer article slot
+Offered v peer article slot r now_held = record { table = v; slot = now_held; answer = answered r } ≡ offered v peer article slot

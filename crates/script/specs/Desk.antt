@@ -92,7 +92,7 @@ ActsAt v slots (Figure site article) t = t ≡ record { table = v; slots = slots
 ActsAt v slots (OpenItem site peer article) t = t ≡ record { table = v; slots = slots; answer = flagged v peer article }
 
 abbrev pub ActedAt : View → List (List ℕ) → Command → Result Answer LineFault → View → List (List ℕ) → Type 0
-ActedAt v slots c r after now-slots = ActsAt v slots c (record { table = after; slots = now-slots; answer = answered r })
+ActedAt v slots c r after now_slots = ActsAt v slots c (record { table = after; slots = now_slots; answer = answered r })
 
 -- a command, what it answers and the desk that it leaves: the other sites' tables stay
 abbrev pub Acts : DeskView → Command → Reply → DeskView → Type 0
