@@ -48,17 +48,36 @@ abbrev pub measured : Result ℕ TableFault → Reply
 measured (Ok n) = Ok (Answers.Length n)
 measured (Err e) = refuse (shown e)
 
+-- the calls of M up to its write, the latest first
+abbrev pub open_and_write : ℕ → Ticket → ℕ → ℤ → Result ℕ TableFault → List Event
+open_and_write site t article amount r = at site (Writes t article 1 amount r) ∷ (at site (Opens (Ok t)) ∷ [])
+
 -- after this run, which led to this desk, a command makes these calls, the latest first, and answers this
 pub data Makes (group : Group) (run : List Event) (d : DeskView) : Command → Reply → List Event → Type 0 where
   -- M: open, write and commit; the open is granted, and where the write is refused, by 4 or 8, or the commit, by 16, the
   -- transaction is abandoned
-  moves : (site article slot : ℕ) (amount : ℤ) (t : Ticket) (time : ℕ) (after : List ℕ) (n : ℕ × ℕ) → Makes group run d (Move site article amount slot) (Ok (Answers.Time time)) (at site (Commits t blank (Ok n) after) ∷ (at site (Writes t article 1 amount (Ok time)) ∷ (at site (Opens (Ok t)) ∷ [])))
-  commit_refused : (site article slot : ℕ) (amount : ℤ) (t : Ticket) (time : ℕ) (e : TableFault) → (shown e).number ≡ 16 → Makes group run d (Move site article amount slot) (refuse (shown e)) (at site (Abandons t (Ok tt)) ∷ (at site (Commits t blank (Err (e, t)) blank) ∷ (at site (Writes t article 1 amount (Ok time)) ∷ (at site (Opens (Ok t)) ∷ []))))
-  write_refused : (site article slot : ℕ) (amount : ℤ) (t : Ticket) (e : TableFault) → ((shown e).number ≡ 4) ⊎ ((shown e).number ≡ 8) → Makes group run d (Move site article amount slot) (refuse (shown e)) (at site (Abandons t (Ok tt)) ∷ (at site (Writes t article 1 amount (Err e)) ∷ (at site (Opens (Ok t)) ∷ [])))
+  moves :
+      (site article slot : ℕ) (amount : ℤ) (t : Ticket) (time : ℕ) (after : List ℕ) (n : ℕ × ℕ) →
+      Makes group run d (Move site article amount slot) (Ok (Answers.Time time))
+      (at site (Commits t blank (Ok n) after) ∷ open_and_write site t article amount (Ok time))
+  commit_refused :
+      (site article slot : ℕ) (amount : ℤ) (t : Ticket) (time : ℕ) (e : TableFault) → (shown e).number ≡ 16 →
+      Makes group run d (Move site article amount slot) (refuse (shown e))
+      (at site (Abandons t (Ok tt)) ∷ (at site (Commits t blank (Err (e, t)) blank) ∷ open_and_write site t article amount (Ok time)))
+  write_refused :
+      (site article slot : ℕ) (amount : ℤ) (t : Ticket) (e : TableFault) → ((shown e).number ≡ 4) ⊎ ((shown e).number ≡ 8) →
+      Makes group run d (Move site article amount slot) (refuse (shown e))
+      (at site (Abandons t (Ok tt)) ∷ open_and_write site t article amount (Err e))
   -- O, into the 1,200 bytes that a message is written into
-  offers : (site peer article slot : ℕ) (after : List ℕ) (r : Result ℕ TableFault) → Makes group run d (Offer site peer article slot) (measured r) (at site (Offers peer article blank r after) ∷ [])
+  offers :
+      (site peer article slot : ℕ) (after : List ℕ) (r : Result ℕ TableFault) →
+      Makes group run d (Offer site peer article slot) (measured r)
+      (at site (Offers peer article blank r after) ∷ [])
   -- T, of just the bytes that the slot holds
-  takes : (site slot : ℕ) (r : Result ℕ TableFault) → Makes group run d (Take site slot) (newly r) (at site (Takes (slice_index_or d.slots slot []) r) ∷ [])
+  takes :
+      (site slot : ℕ) (r : Result ℕ TableFault) →
+      Makes group run d (Take site slot) (newly r)
+      (at site (Takes (slice_index_or d.slots slot []) r) ∷ [])
   -- F, as the run counts, and P, as the site's table shows: they change no table
   figures : (site article : ℕ) → Makes group run d (Figure site article) (counted_figure group run site article) []
   flags : (site peer article : ℕ) → Makes group run d (OpenItem site peer article) (flagged (table_at d site) peer article) []
@@ -79,7 +98,9 @@ Plays group run d line calls after bytes =
 abbrev pub PlaysAll : Group → List Event → DeskView → List (List ℕ) → List Event → DeskView → List ℕ → Type 0
 PlaysAll group run d [] later after bytes = (later ≡ run) × (after ≡ d) × (bytes ≡ [])
 PlaysAll group run d (line ∷ lines) later after bytes =
-    (calls : List Event) × (between : DeskView) × (sheet : List ℕ) × (rest : List ℕ) × Plays group run d line calls between sheet × PlaysAll group (calls ++ run) between lines later after rest × (bytes ≡ sheet ++ rest)
+    (calls : List Event) × (between : DeskView) × (sheet : List ℕ) × (rest : List ℕ) ×
+    Plays group run d line calls between sheet × PlaysAll group (calls ++ run) between lines later after rest ×
+    (bytes ≡ sheet ++ rest)
 
 -- EVERY SCRIPT
 
@@ -87,9 +108,13 @@ PlaysAll group run d (line ∷ lines) later after bytes =
 -- with them is longer than the capacity that the output had
 abbrev pub Tallied : Group → List Event → DeskView → List ℕ → List ℕ → ℕ → Result Unit AllocError → DeskView → List ℕ → Type 0
 Tallied group run d input out capacity (Ok _) after grown =
-    (later : List Event) × (sheet : List ℕ) × PlaysAll group run d (script input) later after sheet × AfterRun group later after × (grown ≡ out ++ sheet)
+    (later : List Event) × (sheet : List ℕ) ×
+    PlaysAll group run d (script input) later after sheet × AfterRun group later after × (grown ≡ out ++ sheet)
 Tallied group run d input out capacity (Err _) after grown =
-    (done : List (List ℕ)) × (line : List ℕ) × (rest : List (List ℕ)) × (script input ≡ done ++ (line ∷ rest)) × (later : List Event) × (between : DeskView) × (sheet : List ℕ) × PlaysAll group run d done later between sheet × (calls : List Event) × (lost : List ℕ) × Plays group later between line calls after lost × (grown ≡ out ++ sheet) × (capacity < length grown + length lost)
+    (done : List (List ℕ)) × (line : List ℕ) × (rest : List (List ℕ)) × (script input ≡ done ++ (line ∷ rest)) ×
+    (later : List Event) × (between : DeskView) × (sheet : List ℕ) × PlaysAll group run d done later between sheet ×
+    (calls : List Event) × (lost : List ℕ) × Plays group later between line calls after lost ×
+    (grown ≡ out ++ sheet) × (capacity < length grown + length lost)
 
 -- a new desk stands at the end of a run of no events
 abbrev pub NewStands : DeskView → Type 0
