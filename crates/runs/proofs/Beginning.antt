@@ -21,6 +21,7 @@ module _ (kind : Meaning) (start_fits : SFits w64 kind.starts) (group : Group) w
       record {
         sound = fresh_sound kind setup (group.capacity s) places start_fits;
         setup_is = refl;
+        capacity_is = refl;
         vector = λ a q al ql. none a s q;
         clock_is = greatest_is group blank s 0 (λ a q al ql. omega arith) (λ d lt. absurd (omega (arith, lt)));
         pending_is = refl;

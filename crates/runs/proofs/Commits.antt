@@ -200,6 +200,7 @@ module _ (kind : Meaning) (group : Group) (b : Book) (s : ℕ) (of_group : s < g
     commit_site = record {
       sound = sound;
       setup_is = site.setup_is;
+      capacity_is = site.capacity_is;
       vector = vector;
       clock_is = greatest_is group after s w.clock (λ a q al ql. omega (arith, sym (vector a q al ql), ap (λ (n : ℕ). entry w a n q) own_s, sound.clocked a q)) clock_below;
       pending_is = cond-true (eqb s s) [] (b.pending s) (eq-eqb s s refl);

@@ -99,6 +99,7 @@ module _ (group : Group) (run : List Event) (d : DeskView) (after_run : AfterRun
     group_is = after_run.group_is;
     sites_are = after_run.sites_are;
     articles_are = after_run.articles_are;
+    places_are = after_run.places_are;
     ran = subst (Ran on_hand group (calls ++ run)) (λ i s. beside_slots (with_table d site w) slots s i) ran;
     closed = λ s inside. still_closed site acts w slots shut s inside;
     slots = kept;

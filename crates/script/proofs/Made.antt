@@ -1,5 +1,5 @@
 -- The calls that the commands make which write into a slot or take from one, and the run that they lead to.
-use Rattle.std.proofs.Common.{◌≡◌, ℕ, ◌<◌, true, false, not, List, [], ◌∷◌, ◌++◌, length, ℤ, Some, None, Ok, Err, OnErr, Result, sym, refl, ap, ◌∙◌, subst, ⊎_elim, arith, w32, SFits}
+use Rattle.std.proofs.Common.{◌≡◌, ℕ, ◌<◌, ◌≤◌, true, false, not, List, [], ◌∷◌, ◌++◌, length, ℤ, Some, None, Ok, Err, OnErr, Result, sym, refl, ap, ◌∙◌, subst, ⊎_elim, arith, w32, SFits}
 use Rattle.std.proofs.lemmas.Bool.{and_from, cond-true, eq-eqb}
 use Rattle.action.specs.declared.orders.Action.{Action}
 use Rattle.action.specs.Lawful.{by_table, unless}
@@ -10,6 +10,7 @@ use Rattle.table.specs.declared.faults.TableFault.{TableFault}
 use Rattle.table.specs.declared.tickets.Ticket.{Ticket}
 use Rattle.table.specs.Faults.{shown}
 use Rattle.table.specs.Offers.{offer_bytes, offer_refusal}
+use Rattle.table.specs.Sound.{Sound}
 use Rattle.table.specs.Taking.{Took}
 use Rattle.table.specs.Transactions.{abandon_refusal, abandoned, commit_refusal, committed, fitting, holds, new_action, next_time, open_refusal, opened, ticket, transaction_bytes, with_transaction, write_refusal, written}
 use Rattle.table.specs.View.{View}
@@ -26,7 +27,7 @@ use Rattle.script.specs.Slots.{blank}
 use Rattle.script.specs.Standing.{Kept, Makes}
 use Rattle.script.specs.Standing.Makes.{moves, commit_refused, write_refused, offers}
 use Rattle.script.proofs.Further.{as_it_is, further, kept_after, kept_now}
-use Rattle.script.proofs.Refused.{by_decision, commit_faults, commit_number, offer_faults, write_faults, write_number}
+use Rattle.script.proofs.Refused.{by_decision, commit_faults, commit_number, offer_faults, offer_number, short_offer, write_faults, write_number}
 
 -- a table's open transaction has its own ticket
 own_holds : (v : View) (pending : List Action) → holds on_hand (with_transaction true pending v) (ticket on_hand v) ≡ true
@@ -42,9 +43,22 @@ own_ticket v pending = cond-true (holds on_hand (with_transaction true pending v
 some_bytes : (m : Message) → [] ≡ format m → ⊥
 some_bytes m e = omega (arith, ap length e)
 
-module _ (group : Group) (three : group.sites ≡ 3) (run : List Event) (d : DeskView) (ran : Ran on_hand group run (table_at d)) (site : ℕ) (acts : site < 3) (shut : (table_at d site).is_open ≡ false) (none : (table_at d site).pending ≡ []) where
+-- a table of the desk between two lines
+pub record Resting (v : View) : Type 0 where
+  pub shut : v.is_open ≡ false
+  pub sound : Sound on_hand v
+  pub sites_are : v.setup.sites ≡ 3
+  pub places_are : v.capacity ≡ 64
+
+module _ (group : Group) (three : group.sites ≡ 3) (run : List Event) (d : DeskView) (ran : Ran on_hand group run (table_at d)) (site : ℕ) (acts : site < 3) (rests : Resting (table_at d site)) where
   abbrev v : View
   v = table_at d site
+
+  shut : v.is_open ≡ false
+  shut = rests.shut
+
+  none : v.pending ≡ []
+  none = rests.sound.closed shut
 
   -- a table without a transaction is as it was after one that is abandoned
   as_before : with_transaction false [] v ≡ v
@@ -154,15 +168,18 @@ module _ (group : Group) (three : group.sites ≡ 3) (run : List Event) (d : Des
     abbrev bytes : List ℕ
     bytes = offer_bytes on_hand v peer article
 
+    fits : length bytes ≤ length blank
+    fits = short_offer v peer article rests.sound rests.sites_are rests.places_are
+
     offer_granted_goes : offer_refusal on_hand v peer article blank ≡ None → Goes offer held (record { table = v; slot = bytes; answer = Ok (Length (length bytes)) })
     offer_granted_goes can_offer =
         let call : Call = Offers peer article blank (Ok (length bytes)) (overwritten blank 0 bytes) in
-        (at site call ∷ [], offers site peer article slot (overwritten blank 0 bytes) (Ok (length bytes)), on run call v v start ((can_offer, refl, refl), refl) tt, kept_now (at site call) run bytes (written_back blank bytes (overwritten blank 0 bytes) (length bytes) refl refl), shut, tt)
+        (at site call ∷ [], offers site peer article slot (overwritten blank 0 bytes) (Ok (length bytes)) tt, on run call v v start ((can_offer, refl, refl), refl) tt, kept_now (at site call) run bytes (written_back blank bytes (overwritten blank 0 bytes) (length bytes) refl refl), shut, tt)
 
     offer_refused_goes : (e : TableFault) → offer_refusal on_hand v peer article blank ≡ Some (shown e) → Goes offer held (refused_at v held (shown e))
     offer_refused_goes e is =
         let call : Call = Offers peer article blank (Err e) blank in
-        (at site call ∷ [], offers site peer article slot blank (Err e), on run call v v start ((is, refl), refl) tt, kept_after (at site call ∷ []) run held kept, shut, (refl, refl))
+        (at site call ∷ [], offers site peer article slot blank (Err e) (offer_number v peer article blank (shown e) fits is), on run call v v start ((is, refl), refl) tt, kept_after (at site call ∷ []) run held kept, shut, (refl, refl))
 
     pub offer_goes : Goes offer held (offered v peer article held)
     offer_goes = by_decision (Goes offer held) (offer_refusal on_hand v peer article blank) (refused_at v held) (record { table = v; slot = bytes; answer = Ok (Length (length bytes)) }) (offer_faults v peer article blank) offer_refused_goes offer_granted_goes

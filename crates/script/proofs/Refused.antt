@@ -1,6 +1,8 @@
 -- Every refusal of a call of the desk is a fault's, and what a call decides goes by them.
-use Rattle.std.proofs.Common.{◌≡◌, ℕ, ◌+◌, ◌⊎◌, Bool, true, false, ltb, leb, List, [], ◌∷◌, length, ℤ, IfSome, Some, None, Option, sym, refl, ap, ◌∙◌, subst, inl, inr, ⊎_elim}
-use Rattle.std.proofs.lemmas.Bool.{cond-true, cond_both}
+use Rattle.std.proofs.Common.{◌≡◌, ℕ, ◌+◌, ◌≤◌, ◌⊎◌, Bool, true, false, not, ltb, leb, List, [], ◌∷◌, length, ℤ, IfSome, Some, None, Option, sym, refl, ap, ◌∙◌, subst, inl, inr, ⊎_elim, arith}
+use Rattle.std.proofs.lemmas.Bool.{cond-true, cond_both, le-leb}
+use Rattle.std.proofs.lemmas.List.{length-replicate}
+use Rattle.std.proofs.lemmas.List.Filters.{length-filter_both}
 use Rattle.action.specs.declared.refusals.Refusal.{Refusal}
 use Rattle.action.specs.Lawful.{unless}
 use Rattle.history.specs.declared.faults.HistoryFault.TheVariants.{Full}
@@ -9,10 +11,14 @@ use Rattle.table.specs.declared.faults.TableFault.{TableFault}
 use Rattle.table.specs.declared.faults.TableFault.TheVariants.{NotItsTicket, NoArticle, NoSite, UnknownPair, TooManyWrites, TooLate, Short, InHistory}
 use Rattle.table.specs.declared.tickets.Ticket.{Ticket}
 use Rattle.table.specs.Faults.{shown}
-use Rattle.table.specs.Offers.{offer_bytes, offer_refusal}
+use Rattle.table.specs.Offers.{is_offered, offer_bytes, offer_refusal}
+use Rattle.table.specs.Sound.{Sound}
 use Rattle.table.specs.Transactions.{commit_refusal, holds, next_time, write_refusal}
 use Rattle.table.specs.View.{View}
+use Rattle.table.proofs.Offering.{length_offer}
 use Rattle.script.specs.Acts.{decided}
+use Rattle.script.specs.Slots.{blank}
+use Rattle.script.proofs.Held.{blank_is}
 
 abbrev Fault : Refusal → Type 0
 Fault r = (e : TableFault) × (shown e ≡ r)
@@ -77,3 +83,25 @@ commit_number v t s held is =
     (λ (same : ◌≡◌ {A = Refusal} _ s). sym (ap (λ (r : Refusal). r.number) same))
     (λ none. absurd (no_refusal s none))
     (decides (leb (length v.history + length v.pending) v.capacity) _ s None (past (holds on_hand v t) _ _ (Some s) held is))
+
+-- THE NUMBERS OF AN OFFER
+
+-- three sites, and a history of 64 places
+pub short_offer : (v : View) (p a : ℕ) → Sound on_hand v → v.setup.sites ≡ 3 → v.capacity ≡ 64 → length (offer_bytes on_hand v p a) ≤ length blank
+short_offer v p a sound three places =
+    let few = length-filter_both (is_offered v p a) (λ x. not (is_offered v p a x)) (λ x. refl) v.history in
+    omega (arith, length_offer on_hand v p a, few, sound.held, three, places, ap length (sym blank_is), length-replicate {A = ℕ} 1200 0)
+
+-- with room for the offer
+pub offer_number : (v : View) (p a : ℕ) (buffer : List ℕ) (s : Refusal) → length (offer_bytes on_hand v p a) ≤ length buffer → offer_refusal on_hand v p a buffer ≡ Some s → (s.number ≡ 4) ⊎ (s.number ≡ 5)
+offer_number v p a buffer s fits is =
+    let number : Refusal → ℕ = λ r. r.number in
+    let long = length (offer_bytes on_hand v p a) in
+    ⊎_elim
+    (λ same. inl (sym (ap number same)))
+    (λ others.
+    ⊎_elim
+    (λ same. inr (sym (ap number same)))
+    (λ short. absurd (no_refusal s (past (leb long (length buffer)) _ _ (Some s) (le-leb long (length buffer) fits) short)))
+    (decides (ltb p v.setup.sites) _ s _ others))
+    (decides (ltb a v.setup.articles) _ s _ is)

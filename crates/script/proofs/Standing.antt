@@ -28,7 +28,7 @@ use Rattle.script.specs.Scripts.{PerformsAll, Scripted}
 use Rattle.script.specs.Standing.{AfterRun, Kept, LineStands, Makes, MakesLine, NewStands, PlaysAll, ScriptStands, counted_figure}
 use Rattle.script.specs.Standing.Makes.{takes, figures, flags}
 use Rattle.script.proofs.Further.{kept_at, slots_kept, slots_stay, stands_further}
-use Rattle.script.proofs.Made.{Goes, move_goes, offer_goes, take_ran, take_shut, take_stays}
+use Rattle.script.proofs.Made.{Goes, Resting, move_goes, offer_goes, take_ran, take_shut, take_stays}
 use Rattle.script.proofs.Ranges.{Ranged, command_ranged}
 
 -- THE LAWS AT ON HAND
@@ -78,14 +78,18 @@ module _ (group : Group) (run : List Event) (d : DeskView) (stood : AfterRun gro
     inside : site < group.sites
     inside = omega (arith, stood.sites_are)
 
-    shut : (table_at d site).is_open ≡ false
-    shut = stood.closed site acts
-
-    none : (table_at d site).pending ≡ []
-    none = ((on_hand_stands group run (table_at d) stood.ran).sites site inside).sound.closed shut
+    rests : Resting (table_at d site)
+    rests =
+        let here = (on_hand_stands group run (table_at d) stood.ran).sites site inside in
+        record {
+          shut = stood.closed site acts;
+          sound = here.sound;
+          sites_are = ap (λ (s : Setup). s.sites) here.setup_is ∙ (group.agrees site inside).sites_are ∙ stood.sites_are;
+          places_are = here.capacity_is ∙ stood.places_are site acts;
+        }
 
     -- a command that writes into a slot
-    writes : (c : Command) (slot : ℕ) (o : Outcome) (a : Reply) (after : DeskView) → Goes group stood.sites_are run d stood.ran site acts shut none c (get_or d.slots slot []) o → turn after a ≡ settled d.slots slot o → after ≡ now after → Goes_on c a after
+    writes : (c : Command) (slot : ℕ) (o : Outcome) (a : Reply) (after : DeskView) → Goes group stood.sites_are run d stood.ran site acts rests c (get_or d.slots slot []) o → turn after a ≡ settled d.slots slot o → after ≡ now after → Goes_on c a after
     writes c slot o a after (calls, makes, ran, kept, closed, stays) is others =
         let left : after ≡ with_slots (with_table d site o.table) (set d.slots slot o.slot) = others ∙ (λ i. with_slots (with_table d site (is i).table) (is i).slots) in
         let answer : o.answer ≡ a = sym (λ i. (is i).answer) in
@@ -114,8 +118,8 @@ module _ (group : Group) (run : List Event) (d : DeskView) (stood : AfterRun gro
         let as_before : w ≡ table_at d site → after ≡ d = λ same. left ∙ ap (λ u. with_slots (with_table d site u) d.slots) same ∙ sym (as_it_was d site) in (
           calls,
           subst (λ b. Makes group run d (Take site slot) b calls) (sym told) (takes site slot r),
-          subst (λ b. OnErr b (after ≡ d)) (sym told) (on_err_weaker (newly r) as_before (take_stays group stood.sites_are run d stood.ran site acts shut none bytes r w took)),
-          subst (AfterRun group (calls ++ run)) (sym left) (stands_further group run d stood calls site acts w d.slots (take_ran group stood.sites_are run d stood.ran site acts shut none bytes r w kept took) (slots_stay group run d stood calls) (take_shut group stood.sites_are run d stood.ran site acts shut none bytes r w took)),
+          subst (λ b. OnErr b (after ≡ d)) (sym told) (on_err_weaker (newly r) as_before (take_stays group stood.sites_are run d stood.ran site acts rests bytes r w took)),
+          subst (AfterRun group (calls ++ run)) (sym left) (stands_further group run d stood calls site acts w d.slots (take_ran group stood.sites_are run d stood.ran site acts rests bytes r w kept took) (slots_stay group run d stood calls) (take_shut group stood.sites_are run d stood.ran site acts rests bytes r w took)),
         )
 
     -- the site has four articles, and its figures are those that the run counts
@@ -129,10 +133,10 @@ module _ (group : Group) (run : List Event) (d : DeskView) (stood : AfterRun gro
   command_goes_on (Move site article amount slot) a after ranged is =
       let acts = ranged.0 in
       let kept = kept_at run d.slots slot stood.slots in
-      writes site acts (Move site article amount slot) slot _ a after (move_goes group stood.sites_are run d stood.ran site acts (shut site acts) (none site acts) article amount slot ranged.1 ranged.2 (get_or d.slots slot []) kept) is.0 is.1
+      writes site acts (Move site article amount slot) slot _ a after (move_goes group stood.sites_are run d stood.ran site acts (rests site acts) article amount slot ranged.1 ranged.2 (get_or d.slots slot []) kept) is.0 is.1
   command_goes_on (Offer site peer article slot) a after acts is =
       let kept = kept_at run d.slots slot stood.slots in
-      writes site acts (Offer site peer article slot) slot _ a after (offer_goes group stood.sites_are run d stood.ran site acts (shut site acts) (none site acts) peer article slot (get_or d.slots slot []) kept) is.0 is.1
+      writes site acts (Offer site peer article slot) slot _ a after (offer_goes group stood.sites_are run d stood.ran site acts (rests site acts) peer article slot (get_or d.slots slot []) kept) is.0 is.1
   command_goes_on (Take site slot) a after ranged is = takes_on site ranged slot a after is.0 is.1
   command_goes_on (Figure site article) a after ranged is =
       leaves site ranged (Figure site article) a (figured (table_at d site) article) after (subst (λ b. Makes group run d (Figure site article) b []) (sym (counts site ranged article)) (figures site article)) is.0 is.1
@@ -196,4 +200,4 @@ new_stands d new =
       few_places = λ s inside. omega arith;
     } in
     let none : AllByRecursion (Kept []) (replicate 10 []) = search rules in
-    (group, record { group_is = refl; sites_are = refl; articles_are = refl; ran = λ s inside. fresh_table d new s; closed = λ s inside. ap (λ (v : View). v.is_open) (fresh_table d new s); slots = subst (AllByRecursion (Kept [])) (sym new.slots) none })
+    (group, record { group_is = refl; sites_are = refl; articles_are = refl; places_are = λ s inside. refl; ran = λ s inside. fresh_table d new s; closed = λ s inside. ap (λ (v : View). v.is_open) (fresh_table d new s); slots = subst (AllByRecursion (Kept [])) (sym new.slots) none })

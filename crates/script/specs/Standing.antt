@@ -1,6 +1,6 @@
 -- A script as part of a run of the three tables: which calls its lines make, and that its figures are those that
 -- the run counts. Assumes nothing.
-use Rattle.std.specs.Prelude.{◌≡◌, ℕ, ◌+◌, ◌<◌, false, cond, ◌⊎◌, List, [], ◌∷◌, ◌++◌, map, length, ℤ, Some, None, Ok, Err, OnErr, Option, Result, nat_lt, slice_index_or}
+use Rattle.std.specs.Prelude.{◌≡◌, ℕ, ◌+◌, ◌<◌, false, cond, ◌⊎◌, List, [], ◌∷◌, ◌++◌, map, length, ℤ, Some, None, Ok, Err, IfErr, OnErr, Option, Result, nat_lt, slice_index_or}
 use Rattle.std.specs.List.{ContainsAt as Has, AllByRecursion}
 use Rattle.std.specs.declared.alloc.AllocError.{AllocError}
 use Rattle.kind.specs.Meanings.{on_hand}
@@ -28,11 +28,12 @@ abbrev pub Kept : List Event → List ℕ → Type 0
 Kept run bytes = (bytes ≡ []) ⊎ Has (map (λ event. wrote event.call) run) bytes
 
 -- the desk stands at the end of this run: its events, the latest first, led from new tables of three sites with four
--- articles to the desk's, no transaction is open, and each slot holds nothing or what one of them wrote
+-- articles and 64 places to the desk's, no transaction is open, and each slot holds nothing or what one of them wrote
 pub record AfterRun (group : Group) (run : List Event) (d : DeskView) : Type 0 where
   pub group_is : group.number ≡ 1
   pub sites_are : group.sites ≡ 3
   pub articles_are : group.articles ≡ 4
+  pub places_are : (site : ℕ) → site < 3 → group.capacity site ≡ 64
   pub ran : Ran on_hand group run (table_at d)
   pub closed : (site : ℕ) → site < 3 → (table_at d site).is_open ≡ false
   pub slots : AllByRecursion (Kept run) d.slots
@@ -68,9 +69,10 @@ pub data Makes (group : Group) (run : List Event) (d : DeskView) : Command → R
       (site article slot : ℕ) (amount : ℤ) (t : Ticket) (e : TableFault) → ((shown e).number ≡ 4) ⊎ ((shown e).number ≡ 8) →
       Makes group run d (Move site article amount slot) (refuse (shown e))
       (at site (Abandons t (Ok tt)) ∷ open_and_write site t article amount (Err e))
-  -- O, into the 1,200 bytes that a message is written into
+  -- O, into the 1,200 bytes that a message is written into, in which there is room for every offer: it is refused by 4 or 5
   offers :
       (site peer article slot : ℕ) (after : List ℕ) (r : Result ℕ TableFault) →
+      IfErr r (λ e. ((shown e).number ≡ 4) ⊎ ((shown e).number ≡ 5)) →
       Makes group run d (Offer site peer article slot) (measured r)
       (at site (Offers peer article blank r after) ∷ [])
   -- T, of just the bytes that the slot holds
