@@ -1,5 +1,6 @@
 -- What a slot holds after a granted or refused move or offer, and that the slots of a new desk are empty.
 use Rattle.std.proofs.Common.{◌≡◌, ℕ, zero, suc, ◌<◌, List, [], ◌∷◌, length, get_or, take, replicate, ℤ, Some, None, Ok, Err, Result, MatchResult, IsOkAnd, subst, sym, refl, ap, ◌∙◌, arith}
+use Rattle.std.proofs.lemmas.List.{length-replicate}
 use Rattle.action.specs.declared.refusals.Refusal.{Refusal}
 use Rattle.kind.specs.Meanings.{on_hand}
 use Rattle.table.specs.Offers.{offer_bytes, offer_refusal}
@@ -16,6 +17,9 @@ use Rattle.script.specs.Slots.{blank}
 pub blank_is : replicate 1200 0 ≡ blank
 unfolding blank
 blank_is = refl
+
+pub length_blank : length blank ≡ 1200
+length_blank = ap length (sym blank_is) ∙ length-replicate {A = ℕ} 1200 0
 
 -- slots that hold nothing
 pub all_empty : (slots : List (List ℕ)) (n : ℕ) → length slots ≡ n → ((i : ℕ) (none : List ℕ) → i < n → get_or slots i none ≡ []) → slots ≡ replicate n []

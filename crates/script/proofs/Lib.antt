@@ -2,6 +2,7 @@ mod Further
 mod Held
 mod Lined
 mod Made
+mod Posted
 mod Ranges
 mod Refused
 mod Standing

@@ -1,6 +1,6 @@
 -- The calls that the commands make which write into a slot or take from one, and the run that they lead to.
-use Rattle.std.proofs.Common.{◌≡◌, ℕ, ◌<◌, ◌≤◌, true, false, not, List, [], ◌∷◌, ◌++◌, length, ℤ, Some, None, Ok, Err, OnErr, Result, sym, refl, ap, ◌∙◌, subst, ⊎_elim, arith, w32, SFits}
-use Rattle.std.proofs.lemmas.Bool.{and_from, cond-true, eq-eqb}
+use Rattle.std.proofs.Common.{◌≡◌, ℕ, ◌<◌, ◌≤◌, true, false, not, ltb, leb, List, [], ◌∷◌, ◌++◌, length, ℤ, Some, None, Ok, Err, OnErr, Result, sym, refl, ap, ◌∙◌, subst, ⊎_elim, arith, w32, SFits}
+use Rattle.std.proofs.lemmas.Bool.{and_from, cond-true, eq-eqb, le-leb, ltb-true}
 use Rattle.action.specs.declared.orders.Action.{Action}
 use Rattle.action.specs.Lawful.{by_table, unless}
 use Rattle.kind.specs.Meanings.{on_hand, on_hand_knows}
@@ -14,6 +14,7 @@ use Rattle.table.specs.Sound.{Sound}
 use Rattle.table.specs.Taking.{Took}
 use Rattle.table.specs.Transactions.{abandon_refusal, abandoned, commit_refusal, committed, fitting, holds, new_action, next_time, open_refusal, opened, ticket, transaction_bytes, with_transaction, write_refusal, written}
 use Rattle.table.specs.View.{View}
+use Rattle.table.proofs.Soundness.{passed}
 use Rattle.runs.specs.Events.{Call, Does, Event, at}
 use Rattle.runs.specs.Events.Call.{Opens, Writes, Commits, Abandons, Offers, Takes}
 use Rattle.runs.specs.Runs.{Honest, Group, Ran}
@@ -27,6 +28,8 @@ use Rattle.script.specs.Slots.{blank}
 use Rattle.script.specs.Standing.{Kept, Makes}
 use Rattle.script.specs.Standing.Makes.{moves, commit_refused, write_refused, offers}
 use Rattle.script.proofs.Further.{as_it_is, further, kept_after, kept_now}
+use Rattle.script.proofs.Held.{length_blank}
+use Rattle.script.proofs.Posted.{length_posted}
 use Rattle.script.proofs.Refused.{by_decision, commit_faults, commit_number, offer_faults, offer_number, short_offer, write_faults, write_number}
 
 -- a table's open transaction has its own ticket
@@ -48,6 +51,7 @@ pub record Resting (v : View) : Type 0 where
   pub shut : v.is_open ≡ false
   pub sound : Sound on_hand v
   pub sites_are : v.setup.sites ≡ 3
+  pub articles_are : v.setup.articles ≡ 4
   pub places_are : v.capacity ≡ 64
 
 module _ (group : Group) (three : group.sites ≡ 3) (run : List Event) (d : DeskView) (ran : Ran on_hand group run (table_at d)) (site : ℕ) (acts : site < 3) (rests : Resting (table_at d site)) where
@@ -112,6 +116,19 @@ module _ (group : Group) (three : group.sites ≡ 3) (run : List Event) (d : Des
         abbrev message : List ℕ
         message = fitting (transaction_bytes on_hand x) blank
 
+        one : x.pending ≡ new_action u article 1 amount ∷ []
+        one = ap (λ xs. xs ++ (new_action u article 1 amount ∷ [])) none
+
+        listed : article < 4
+        listed =
+            let holds_it = passed (holds on_hand u t) _ _ can_write in
+            omega (arith, rests.articles_are, ltb-true article v.setup.articles (passed (ltb article v.setup.articles) _ _ holds_it.1).0)
+
+        posted : length message ≡ 37
+        posted =
+            let long = length_posted x (new_action u article 1 amount) one rests.articles_are listed in
+            ap length (cond-true (leb (length (transaction_bytes on_hand x)) (length blank)) _ [] (le-leb _ _ (omega (arith, long, length_blank)))) ∙ long
+
         abbrev commits : Call
         commits = Commits t blank (Ok (length x.pending, length message)) (overwritten blank 0 message)
 
@@ -124,7 +141,7 @@ module _ (group : Group) (three : group.sites ≡ 3) (run : List Event) (d : Des
         commit_granted_goes : commit_refusal on_hand x t ≡ None → Goes c held (record { table = committed on_hand x; slot = message; answer = Ok (Time (next_time u)) })
         commit_granted_goes can_commit = (
           at site commits ∷ (at site (writes (Ok (next_time u))) ∷ (at site opens ∷ [])),
-          moves site article slot amount t (next_time u) (overwritten blank 0 message) (length x.pending, length message),
+          moves site article slot amount t (next_time u) (overwritten blank 0 message) (length x.pending, length message) (λ i. (ap length one i, posted i)),
           on so_far commits x (committed on_hand x) write_ran (can_commit, refl, refl, refl, refl) tt,
           kept_now (at site commits) so_far message (written_back blank message (overwritten blank 0 message) (length message) refl refl),
           refl,

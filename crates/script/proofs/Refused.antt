@@ -1,7 +1,6 @@
 -- Every refusal of a call of the desk is a fault's, and what a call decides goes by them.
 use Rattle.std.proofs.Common.{◌≡◌, ℕ, ◌+◌, ◌≤◌, ◌⊎◌, Bool, true, false, not, ltb, leb, List, [], ◌∷◌, length, ℤ, IfSome, Some, None, Option, sym, refl, ap, ◌∙◌, subst, inl, inr, ⊎_elim, arith}
 use Rattle.std.proofs.lemmas.Bool.{cond-true, cond_both, le-leb}
-use Rattle.std.proofs.lemmas.List.{length-replicate}
 use Rattle.std.proofs.lemmas.List.Filters.{length-filter_both}
 use Rattle.action.specs.declared.refusals.Refusal.{Refusal}
 use Rattle.action.specs.Lawful.{unless}
@@ -18,7 +17,7 @@ use Rattle.table.specs.View.{View}
 use Rattle.table.proofs.Offering.{length_offer}
 use Rattle.script.specs.Acts.{decided}
 use Rattle.script.specs.Slots.{blank}
-use Rattle.script.proofs.Held.{blank_is}
+use Rattle.script.proofs.Held.{length_blank}
 
 abbrev Fault : Refusal → Type 0
 Fault r = (e : TableFault) × (shown e ≡ r)
@@ -90,7 +89,7 @@ commit_number v t s held is =
 pub short_offer : (v : View) (p a : ℕ) → Sound on_hand v → v.setup.sites ≡ 3 → v.capacity ≡ 64 → length (offer_bytes on_hand v p a) ≤ length blank
 short_offer v p a sound three places =
     let few = length-filter_both (is_offered v p a) (λ x. not (is_offered v p a x)) (λ x. refl) v.history in
-    omega (arith, length_offer on_hand v p a, few, sound.held, three, places, ap length (sym blank_is), length-replicate {A = ℕ} 1200 0)
+    omega (arith, length_offer on_hand v p a, few, sound.held, three, places, length_blank)
 
 -- with room for the offer
 pub offer_number : (v : View) (p a : ℕ) (buffer : List ℕ) (s : Refusal) → length (offer_bytes on_hand v p a) ≤ length buffer → offer_refusal on_hand v p a buffer ≡ Some s → (s.number ≡ 4) ⊎ (s.number ≡ 5)

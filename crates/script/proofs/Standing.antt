@@ -85,6 +85,7 @@ module _ (group : Group) (run : List Event) (d : DeskView) (stood : AfterRun gro
           shut = stood.closed site acts;
           sound = here.sound;
           sites_are = ap (λ (s : Setup). s.sites) here.setup_is ∙ (group.agrees site inside).sites_are ∙ stood.sites_are;
+          articles_are = ap (λ (s : Setup). s.articles) here.setup_is ∙ (group.agrees site inside).articles_are ∙ stood.articles_are;
           places_are = here.capacity_is ∙ stood.places_are site acts;
         }
 
@@ -125,9 +126,8 @@ module _ (group : Group) (run : List Event) (d : DeskView) (stood : AfterRun gro
     -- the site has four articles, and its figures are those that the run counts
     counts : (article : ℕ) → figured (table_at d site) article ≡ counted_figure group run site article
     counts article =
-        let four : (table_at d site).setup.articles ≡ 4 = ap (λ (s : Setup). s.articles) ((on_hand_stands group run (table_at d) stood.ran).sites site inside).setup_is ∙ (group.agrees site inside).articles_are ∙ stood.articles_are in
         let law = on_hand_counted group run (table_at d) stood.ran in
-        ap (λ n. decided (unless (ltb article n) (by_table 4 0) None) refuse (Ok (Answers.Figure (figure (table_at d site) article)))) four ∙ figure_or_four (ltb article 4) _ _ (λ known. law.figured site article inside (omega (arith, ltb-true article 4 known, stood.articles_are)))
+        ap (λ n. decided (unless (ltb article n) (by_table 4 0) None) refuse (Ok (Answers.Figure (figure (table_at d site) article)))) rests.articles_are ∙ figure_or_four (ltb article 4) _ _ (λ known. law.figured site article inside (omega (arith, ltb-true article 4 known, stood.articles_are)))
 
   command_goes_on : (c : Command) (a : Reply) (after : DeskView) → Ranged c → Acts d c a after → Goes_on c a after
   command_goes_on (Move site article amount slot) a after ranged is =

@@ -56,9 +56,9 @@ open_and_write site t article amount r = at site (Writes t article 1 amount r) �
 -- after this run, which led to this desk, a command makes these calls, the latest first, and answers this
 pub data Makes (group : Group) (run : List Event) (d : DeskView) : Command → Reply → List Event → Type 0 where
   -- M: open, write and commit; the open is granted, and where the write is refused, by 4 or 8, or the commit, by 16, the
-  -- transaction is abandoned
+  -- transaction is abandoned. A commit is of one action, and its message of 37 bytes
   moves :
-      (site article slot : ℕ) (amount : ℤ) (t : Ticket) (time : ℕ) (after : List ℕ) (n : ℕ × ℕ) →
+      (site article slot : ℕ) (amount : ℤ) (t : Ticket) (time : ℕ) (after : List ℕ) (n : ℕ × ℕ) → n ≡ (1, 37) →
       Makes group run d (Move site article amount slot) (Ok (Answers.Time time))
       (at site (Commits t blank (Ok n) after) ∷ open_and_write site t article amount (Ok time))
   commit_refused :
