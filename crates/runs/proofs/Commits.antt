@@ -23,7 +23,7 @@ use Rattle.runs.specs.Runs.{Group}
 use Rattle.runs.proofs.Greatest.{greatest_above, greatest_is}
 use Rattle.runs.proofs.Growing.{Grown, New, still_everywhere}
 use Rattle.runs.proofs.Sites.{articles_are, few_articles, own_entry, own_is, reached_clocked}
-use Rattle.runs.proofs.Standing.{Gathered, Account, Reached, Recorded, Site}
+use Rattle.runs.proofs.Standing.{Account, Gathered, Reached, Recorded, Site}
 
 module _ (kind : Meaning) (group : Group) (b : Book) (s : ℕ) (of_group : s < group.sites) (v : View) (site : Site kind group b s v) (l : Account group b) where
   abbrev pending : List Action

@@ -19,7 +19,7 @@ use Rattle.runs.specs.Events.{Event}
 use Rattle.runs.specs.Laws.{CountsEachOnce, HadByItsCoordinator, LevelWhereNothingOpen, NothingOpen}
 use Rattle.runs.specs.Runs.{Group}
 use Rattle.runs.proofs.Sites.{few_articles, own_is}
-use Rattle.runs.proofs.Standing.{Gathered, Account, Reached, Recorded, Site, Standing}
+use Rattle.runs.proofs.Standing.{Account, Gathered, Reached, Recorded, Site, Standing}
 
 -- ONE SITE
 

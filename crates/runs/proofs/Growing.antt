@@ -17,7 +17,7 @@ use Rattle.runs.specs.Events.{Call, Event, wrote}
 use Rattle.runs.specs.Events.Call.{Opens, Writes, Commits, Abandons, Offers, Takes, Archives}
 use Rattle.runs.specs.Runs.{Group, Turn}
 use Rattle.runs.proofs.Greatest.{greatest_ge}
-use Rattle.runs.proofs.Standing.{Absorbed, Credits, Everywhere, Gathered, Account, Recorded, Sent, Site, Standing, Told, Truthful}
+use Rattle.runs.proofs.Standing.{Absorbed, Account, Credits, Everywhere, Gathered, Recorded, Sent, Site, Standing, Told, Truthful}
 
 -- an action that the site commits now: it is later than all that the site has
 pub record New (group : Group) (s : ℕ) (b after : Book) (x : Action) : Type 0 where

@@ -8,7 +8,7 @@ use Rattle.action.proofs.Members.{has_first, has_later}
 use Rattle.kind.specs.Meanings.{on_hand}
 use Rattle.table.specs.View.{View}
 use Rattle.runs.specs.Events.{Call, Does, Event, at, wrote}
-use Rattle.runs.specs.Runs.{Honest, Group, Ran}
+use Rattle.runs.specs.Runs.{Group, Honest, Ran}
 use Rattle.script.specs.Desk.{DeskView, table_at, with_slots, with_table}
 use Rattle.script.specs.Standing.{AfterRun, Kept}
 

@@ -17,12 +17,12 @@ use Rattle.table.specs.View.{View}
 use Rattle.table.proofs.Soundness.{passed}
 use Rattle.runs.specs.Events.{Call, Does, Event, at}
 use Rattle.runs.specs.Events.Call.{Opens, Writes, Commits, Abandons, Offers, Takes}
-use Rattle.runs.specs.Runs.{Honest, Group, Ran}
+use Rattle.runs.specs.Runs.{Group, Honest, Ran}
 use Rattle.runs.proofs.Writing.{written_back}
 use Rattle.script.specs.declared.answers.Answer.TheVariants.{Time, Length}
 use Rattle.script.specs.declared.commands.Command.{Command}
 use Rattle.script.specs.declared.commands.Command.TheVariants.{Move, Offer}
-use Rattle.script.specs.Acts.{Outcome, decided, moved, moved_opened, moved_written, newly, offered, refused_at}
+use Rattle.script.specs.Acts.{Outcome, by_refusal, move_outcome, offer_outcome, outcome_once_opened, outcome_once_written, refused_at, take_reply}
 use Rattle.script.specs.Desk.{DeskView, table_at, with_table}
 use Rattle.script.specs.Slots.{blank}
 use Rattle.script.specs.Standing.{Kept, Makes}
@@ -155,7 +155,7 @@ module _ (group : Group) (three : group.sites ≡ 3) (run : List Event) (d : Des
             let refused = on so_far call x x write_ran (is, refl, refl, refl) tt in
             (calls, commit_refused site article slot amount t (next_time u) e (commit_number x t (shown e) (own_holds v x.pending) is), on (at site call ∷ so_far) (Abandons t (Ok tt)) x (abandoned x) refused (own_ticket v x.pending, refl) tt, kept_after calls run held kept, refl, (as_before, refl))
 
-        write_granted_goes : Goes c held (moved_written v x (next_time u) held)
+        write_granted_goes : Goes c held (outcome_once_written v x (next_time u) held)
         write_granted_goes =
             by_decision (Goes c held) (commit_refusal on_hand x t) (refused_at (abandoned x) held) (record { table = committed on_hand x; slot = message; answer = Ok (Time (next_time u)) }) (commit_faults x t) commit_refused_goes commit_granted_goes
 
@@ -165,16 +165,16 @@ module _ (group : Group) (three : group.sites ≡ 3) (run : List Event) (d : Des
           let refused = on (at site opens ∷ run) (writes (Err e)) u u open_ran (omega arith, fits, (is, refl)) tt in
           (calls, write_refused site article slot amount t e (write_number u t article amount (shown e) (own_holds v v.pending) known none is), on (at site (writes (Err e)) ∷ (at site opens ∷ run)) (Abandons t (Ok tt)) u (abandoned u) refused (own_ticket v v.pending, refl) tt, kept_after calls run held kept, refl, (as_before, refl))
 
-      open_granted_goes : Goes c held (moved_opened v u article amount held)
-      open_granted_goes = by_decision (Goes c held) (write_refusal on_hand u t article 1 amount) (refused_at (abandoned u) held) (moved_written v x (next_time u) held) (write_faults u t article 1 amount) write_refused_goes write_granted_goes
+      open_granted_goes : Goes c held (outcome_once_opened v u article amount held)
+      open_granted_goes = by_decision (Goes c held) (write_refusal on_hand u t article 1 amount) (refused_at (abandoned u) held) (outcome_once_written v x (next_time u) held) (write_faults u t article 1 amount) write_refused_goes write_granted_goes
 
     -- no transaction is open, so one can be opened
     can_open : open_refusal v ≡ None
     can_open = ap (λ b. unless (not b) (by_table 2 0) None) shut
 
-    pub move_goes : Goes c held (moved v article amount held)
+    pub move_goes : Goes c held (move_outcome v article amount held)
     move_goes =
-        subst (Goes c held) (sym (ap (λ o. decided o (refused_at v held) (moved_opened v u article amount held)) can_open)) (open_granted_goes can_open)
+        subst (Goes c held) (sym (ap (λ o. by_refusal o (refused_at v held) (outcome_once_opened v u article amount held)) can_open)) (open_granted_goes can_open)
 
   -- O
 
@@ -198,7 +198,7 @@ module _ (group : Group) (three : group.sites ≡ 3) (run : List Event) (d : Des
         let call : Call = Offers peer article blank (Err e) blank in
         (at site call ∷ [], offers site peer article slot blank (Err e) (offer_number v peer article blank (shown e) fits is), on run call v v start ((is, refl), refl) tt, kept_after (at site call ∷ []) run held kept, shut, (refl, refl))
 
-    pub offer_goes : Goes offer held (offered v peer article held)
+    pub offer_goes : Goes offer held (offer_outcome v peer article held)
     offer_goes = by_decision (Goes offer held) (offer_refusal on_hand v peer article blank) (refused_at v held) (record { table = v; slot = bytes; answer = Ok (Length (length bytes)) }) (offer_faults v peer article blank) offer_refused_goes offer_granted_goes
 
   -- T
@@ -215,6 +215,6 @@ module _ (group : Group) (three : group.sites ≡ 3) (run : List Event) (d : Des
   take_shut held (Ok n) w took = ap (λ (u : View). u.is_open) took.1.5 ∙ shut
   take_shut held (Err e) w took = ap (λ (u : View). u.is_open) took.1 ∙ shut
 
-  pub take_stays : (held : List ℕ) (r : Result ℕ TableFault) (w : View) → Took on_hand v held r w → OnErr (newly r) (w ≡ v)
+  pub take_stays : (held : List ℕ) (r : Result ℕ TableFault) (w : View) → Took on_hand v held r w → OnErr (take_reply r) (w ≡ v)
   take_stays held (Ok n) w took = tt
   take_stays held (Err e) w took = took.1

@@ -15,7 +15,7 @@ use Rattle.table.specs.Sound.{Sound}
 use Rattle.table.specs.Transactions.{commit_refusal, holds, next_time, write_refusal}
 use Rattle.table.specs.View.{View}
 use Rattle.table.proofs.Offering.{length_offer}
-use Rattle.script.specs.Acts.{decided}
+use Rattle.script.specs.Acts.{by_refusal}
 use Rattle.script.specs.Slots.{blank}
 use Rattle.script.proofs.Held.{length_blank}
 
@@ -44,7 +44,7 @@ offer_faults v peer article buffer =
     faulted ((ltb article v.setup.articles, NoArticle) ∷ ((ltb peer v.setup.sites, NoSite) ∷ ((leb long (length buffer), Short long) ∷ [])))
 
 -- where a call is refused by a fault, and where it is not
-pub by_decision : {X : Type 0} (P : X → Type 0) (o : Option Refusal) (refused : Refusal → X) (granted : X) → IfSome o Fault → ((e : TableFault) → o ≡ Some (shown e) → P (refused (shown e))) → (o ≡ None → P granted) → P (decided o refused granted)
+pub by_decision : {X : Type 0} (P : X → Type 0) (o : Option Refusal) (refused : Refusal → X) (granted : X) → IfSome o Fault → ((e : TableFault) → o ≡ Some (shown e) → P (refused (shown e))) → (o ≡ None → P granted) → P (by_refusal o refused granted)
 by_decision P None refused granted faults when_refused when_granted = when_granted refl
 by_decision P (Some r) refused granted (e, is) when_refused when_granted = subst (λ (y : Refusal). P (refused y)) is (when_refused e (ap Some (sym is)))
 

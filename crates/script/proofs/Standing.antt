@@ -15,18 +15,18 @@ use Rattle.table.specs.View.{View, fresh}
 use Rattle.runs.specs.Events.{Event, at}
 use Rattle.runs.specs.Events.Call.{Takes}
 use Rattle.runs.specs.Laws.{Counted, EveryRun}
-use Rattle.runs.specs.Runs.{OfGroup, Group}
+use Rattle.runs.specs.Runs.{Group, OfGroup}
 use Rattle.runs.proofs.Laws.{every_counted, run_stands}
 use Rattle.runs.proofs.Standing.{Standing}
 use Rattle.script.specs.declared.answers.Answer.TheVariants as Answers
 use Rattle.script.specs.declared.commands.Command.{Command}
 use Rattle.script.specs.declared.commands.Command.TheVariants.{Move, Offer, Take, Figure, OpenItem}
-use Rattle.script.specs.Acts.{Outcome, Reply, decided, figured, flagged, newly, refuse}
-use Rattle.script.specs.Desk.{Acts, ActsAt, DeskView, FreshDesk, FreshSite, Performs, PerformsCommand, SiteTurn, settled, table_at, with_slots, with_table}
+use Rattle.script.specs.Acts.{Outcome, Reply, by_refusal, figure_reply, open_item_reply, refuse, take_reply}
+use Rattle.script.specs.Desk.{Acts, ActsAt, DeskView, FreshDesk, FreshSite, Performs, PerformsCommand, SiteTurn, site_turn, table_at, with_slots, with_table}
 use Rattle.script.specs.Lines.{command}
 use Rattle.script.specs.Scripts.{PerformsAll, Scripted}
 use Rattle.script.specs.Standing.{AfterRun, Kept, LineStands, Makes, MakesLine, NewStands, PlaysAll, ScriptStands, counted_figure}
-use Rattle.script.specs.Standing.Makes.{takes, figures, flags}
+use Rattle.script.specs.Standing.Makes.{takes, figures, open_items}
 use Rattle.script.proofs.Further.{kept_at, slots_kept, slots_stay, stands_further}
 use Rattle.script.proofs.Made.{Goes, Resting, move_goes, offer_goes, take_ran, take_shut, take_stays}
 use Rattle.script.proofs.Ranges.{Ranged, command_ranged}
@@ -57,7 +57,7 @@ on_err (Ok b) x = tt
 on_err (Err n) x = x
 
 -- a figure, or refused by 4
-figure_or_four : (known : Bool) (z y : ℤ) → (known ≡ true → z ≡ y) → decided (unless known (by_table 4 0) None) refuse (Ok (Answers.Figure z)) ≡ cond known (Ok (Answers.Figure y)) (Err 4)
+figure_or_four : (known : Bool) (z y : ℤ) → (known ≡ true → z ≡ y) → by_refusal (unless known (by_table 4 0) None) refuse (Ok (Answers.Figure z)) ≡ cond known (Ok (Answers.Figure y)) (Err 4)
 figure_or_four true z y same = ap (λ f. Ok (Answers.Figure f)) (same refl)
 figure_or_four false z y same = refl
 
@@ -90,7 +90,7 @@ module _ (group : Group) (run : List Event) (d : DeskView) (stood : AfterRun gro
         }
 
     -- a command that writes into a slot
-    writes : (c : Command) (slot : ℕ) (o : Outcome) (a : Reply) (after : DeskView) → Goes group stood.sites_are run d stood.ran site acts rests c (get_or d.slots slot []) o → turn after a ≡ settled d.slots slot o → after ≡ now after → Goes_on c a after
+    writes : (c : Command) (slot : ℕ) (o : Outcome) (a : Reply) (after : DeskView) → Goes group stood.sites_are run d stood.ran site acts rests c (get_or d.slots slot []) o → turn after a ≡ site_turn d.slots slot o → after ≡ now after → Goes_on c a after
     writes c slot o a after (calls, makes, ran, kept, closed, stays) is others =
         let left : after ≡ with_slots (with_table d site o.table) (set d.slots slot o.slot) = others ∙ (λ i. with_slots (with_table d site (is i).table) (is i).slots) in
         let answer : o.answer ≡ a = sym (λ i. (is i).answer) in
@@ -119,15 +119,15 @@ module _ (group : Group) (run : List Event) (d : DeskView) (stood : AfterRun gro
         let as_before : w ≡ table_at d site → after ≡ d = λ same. left ∙ ap (λ u. with_slots (with_table d site u) d.slots) same ∙ sym (as_it_was d site) in (
           calls,
           subst (λ b. Makes group run d (Take site slot) b calls) (sym told) (takes site slot r),
-          subst (λ b. OnErr b (after ≡ d)) (sym told) (on_err_weaker (newly r) as_before (take_stays group stood.sites_are run d stood.ran site acts rests bytes r w took)),
+          subst (λ b. OnErr b (after ≡ d)) (sym told) (on_err_weaker (take_reply r) as_before (take_stays group stood.sites_are run d stood.ran site acts rests bytes r w took)),
           subst (AfterRun group (calls ++ run)) (sym left) (stands_further group run d stood calls site acts w d.slots (take_ran group stood.sites_are run d stood.ran site acts rests bytes r w kept took) (slots_stay group run d stood calls) (take_shut group stood.sites_are run d stood.ran site acts rests bytes r w took)),
         )
 
     -- the site has four articles, and its figures are those that the run counts
-    counts : (article : ℕ) → figured (table_at d site) article ≡ counted_figure group run site article
+    counts : (article : ℕ) → figure_reply (table_at d site) article ≡ counted_figure group run site article
     counts article =
         let law = on_hand_counted group run (table_at d) stood.ran in
-        ap (λ n. decided (unless (ltb article n) (by_table 4 0) None) refuse (Ok (Answers.Figure (figure (table_at d site) article)))) rests.articles_are ∙ figure_or_four (ltb article 4) _ _ (λ known. law.figured site article inside (omega (arith, ltb-true article 4 known, stood.articles_are)))
+        ap (λ n. by_refusal (unless (ltb article n) (by_table 4 0) None) refuse (Ok (Answers.Figure (figure (table_at d site) article)))) rests.articles_are ∙ figure_or_four (ltb article 4) _ _ (λ known. law.figured site article inside (omega (arith, ltb-true article 4 known, stood.articles_are)))
 
   command_goes_on : (c : Command) (a : Reply) (after : DeskView) → Ranged c → Acts d c a after → Goes_on c a after
   command_goes_on (Move site article amount slot) a after ranged is =
@@ -139,8 +139,8 @@ module _ (group : Group) (run : List Event) (d : DeskView) (stood : AfterRun gro
       writes site acts (Offer site peer article slot) slot _ a after (offer_goes group stood.sites_are run d stood.ran site acts (rests site acts) peer article slot (get_or d.slots slot []) kept) is.0 is.1
   command_goes_on (Take site slot) a after ranged is = takes_on site ranged slot a after is.0 is.1
   command_goes_on (Figure site article) a after ranged is =
-      leaves site ranged (Figure site article) a (figured (table_at d site) article) after (subst (λ b. Makes group run d (Figure site article) b []) (sym (counts site ranged article)) (figures site article)) is.0 is.1
-  command_goes_on (OpenItem site peer article) a after ranged is = leaves site ranged (OpenItem site peer article) a (flagged (table_at d site) peer article) after (flags site peer article) is.0 is.1
+      leaves site ranged (Figure site article) a (figure_reply (table_at d site) article) after (subst (λ b. Makes group run d (Figure site article) b []) (sym (counts site ranged article)) (figures site article)) is.0 is.1
+  command_goes_on (OpenItem site peer article) a after ranged is = leaves site ranged (OpenItem site peer article) a (open_item_reply (table_at d site) peer article) after (open_items site peer article) is.0 is.1
 
 -- ONE LINE, AND ONE AFTER ANOTHER
 

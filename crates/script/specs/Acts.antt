@@ -26,9 +26,9 @@ pub record Outcome : Type 0 where
   pub answer : Reply
 
 -- a call that may be refused: what follows where it is, and where it is not
-abbrev pub decided : {X : Type 0} → Option Refusal → (Refusal → X) → X → X
-decided None refused granted = granted
-decided (Some r) refused granted = refused r
+abbrev pub by_refusal : {X : Type 0} → Option Refusal → (Refusal → X) → X → X
+by_refusal None refused granted = granted
+by_refusal (Some r) refused granted = refused r
 
 abbrev pub refuse : Refusal → Reply
 refuse r = Err r.number
@@ -38,50 +38,50 @@ abbrev pub refused_at : View → List ℕ → Refusal → Outcome
 refused_at v slot r = record { table = v; slot = slot; answer = refuse r }
 
 -- M, with the write done: commit into the slot, or abandon
-abbrev pub moved_written : View → View → ℕ → List ℕ → Outcome
-moved_written v w time slot =
-    decided (commit_refusal on_hand w (ticket on_hand v)) (refused_at (abandoned w) slot) (record { table = committed on_hand w; slot = fitting (transaction_bytes on_hand w) blank; answer = Ok (Time time) })
+abbrev pub outcome_once_written : View → View → ℕ → List ℕ → Outcome
+outcome_once_written v w time slot =
+    by_refusal (commit_refusal on_hand w (ticket on_hand v)) (refused_at (abandoned w) slot) (record { table = committed on_hand w; slot = fitting (transaction_bytes on_hand w) blank; answer = Ok (Time time) })
 
 -- M, with the transaction open: write with operation 1, or abandon
-abbrev pub moved_opened : View → View → ℕ → ℤ → List ℕ → Outcome
-moved_opened v w article amount slot =
-    decided (write_refusal on_hand w (ticket on_hand v) article 1 amount) (refused_at (abandoned w) slot) (moved_written v (written w (new_action w article 1 amount)) (next_time w) slot)
+abbrev pub outcome_once_opened : View → View → ℕ → ℤ → List ℕ → Outcome
+outcome_once_opened v w article amount slot =
+    by_refusal (write_refusal on_hand w (ticket on_hand v) article 1 amount) (refused_at (abandoned w) slot) (outcome_once_written v (written w (new_action w article 1 amount)) (next_time w) slot)
 
 -- M: a transaction of one write. It answers the write's time
-abbrev pub moved : View → ℕ → ℤ → List ℕ → Outcome
-moved v article amount slot = decided (open_refusal v) (refused_at v slot) (moved_opened v (opened v) article amount slot)
+abbrev pub move_outcome : View → ℕ → ℤ → List ℕ → Outcome
+move_outcome v article amount slot = by_refusal (open_refusal v) (refused_at v slot) (outcome_once_opened v (opened v) article amount slot)
 
 -- O: the offer goes into the slot, and its length is answered
-abbrev pub offered : View → ℕ → ℕ → List ℕ → Outcome
-offered v peer article slot =
-    decided (offer_refusal on_hand v peer article blank) (refused_at v slot) (record { table = v; slot = offer_bytes on_hand v peer article; answer = Ok (Length (length (offer_bytes on_hand v peer article))) })
+abbrev pub offer_outcome : View → ℕ → ℕ → List ℕ → Outcome
+offer_outcome v peer article slot =
+    by_refusal (offer_refusal on_hand v peer article blank) (refused_at v slot) (record { table = v; slot = offer_bytes on_hand v peer article; answer = Ok (Length (length (offer_bytes on_hand v peer article))) })
 
 -- how many actions were new, or the refusal
-abbrev pub newly : Result ℕ TableFault → Reply
-newly (Ok n) = Ok (Taken n)
-newly (Err e) = refuse (shown e)
+abbrev pub take_reply : Result ℕ TableFault → Reply
+take_reply (Ok n) = Ok (Taken n)
+take_reply (Err e) = refuse (shown e)
 
 -- T: the message in the slot is taken whole, or refused and nothing is changed
 abbrev pub TookSlot : View → List ℕ → Reply → View → Type 0
-TookSlot v slot a after = (r : Result ℕ TableFault) × Took on_hand v slot r after × (a ≡ newly r)
+TookSlot v slot a after = (r : Result ℕ TableFault) × Took on_hand v slot r after × (a ≡ take_reply r)
 
 -- F
-abbrev pub figured : View → ℕ → Reply
-figured v article = decided (figure_refusal v article) refuse (Ok (Figure (figure v article)))
+abbrev pub figure_reply : View → ℕ → Reply
+figure_reply v article = by_refusal (figure_refusal v article) refuse (Ok (Figure (figure v article)))
 
 -- P: does the site show an open item?
-abbrev pub flagged : View → ℕ → ℕ → Reply
-flagged v peer article = decided (open_item_refusal v article peer) refuse (Ok (IsOpen (open_item v article peer)))
+abbrev pub open_item_reply : View → ℕ → ℕ → Reply
+open_item_reply v peer article = by_refusal (open_item_refusal v article peer) refuse (Ok (IsOpen (open_item v article peer)))
 
 -- the reply that a command's result stands for
-abbrev pub answered : Result Answer LineFault → Reply
-answered (Ok a) = Ok a
-answered (Err e) = Err (number_of e)
+abbrev pub reply_of : Result Answer LineFault → Reply
+reply_of (Ok a) = Ok a
+reply_of (Err e) = Err (number_of e)
 
 -- what the two commands that write into a slot leave and answer
 
-abbrev pub Moved : View → ℕ → ℤ → List ℕ → Result Answer LineFault → View → List ℕ → Type 0
-Moved v article amount slot r after now_held = record { table = after; slot = now_held; answer = answered r } ≡ moved v article amount slot
+abbrev pub MovedSlot : View → ℕ → ℤ → List ℕ → Result Answer LineFault → View → List ℕ → Type 0
+MovedSlot v article amount slot r after now_held = record { table = after; slot = now_held; answer = reply_of r } ≡ move_outcome v article amount slot
 
-abbrev pub Offered : View → ℕ → ℕ → List ℕ → Result Answer LineFault → List ℕ → Type 0
-Offered v peer article slot r now_held = record { table = v; slot = now_held; answer = answered r } ≡ offered v peer article slot
+abbrev pub OfferedSlot : View → ℕ → ℕ → List ℕ → Result Answer LineFault → List ℕ → Type 0
+OfferedSlot v peer article slot r now_held = record { table = v; slot = now_held; answer = reply_of r } ≡ offer_outcome v peer article slot

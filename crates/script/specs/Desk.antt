@@ -7,9 +7,9 @@ use Rattle.script.specs.declared.answers.Answer.{Answer}
 use Rattle.script.specs.declared.commands.Command.{Command}
 use Rattle.script.specs.declared.commands.Command.TheVariants.{Move, Offer, Take, Figure, OpenItem}
 use Rattle.script.specs.declared.faults.LineFault.{LineFault}
-use Rattle.script.specs.Acts.{Outcome, Reply, TookSlot, answered, figured, flagged, moved, offered}
+use Rattle.script.specs.Acts.{Outcome, Reply, TookSlot, figure_reply, move_outcome, offer_outcome, open_item_reply, reply_of}
 use Rattle.script.specs.Lines.{command, site_of}
-use Rattle.script.specs.Sheets.{printed}
+use Rattle.script.specs.Sheets.{printed_line}
 
 -- the tables of sites 0, 1 and 2, and for each slot the message in it
 pub record DeskView : Type 0 where
@@ -80,19 +80,19 @@ pub record SiteTurn : Type 0 where
   pub answer : Reply
 
 -- a command that writes into a slot
-abbrev pub settled : List (List ℕ) → ℕ → Outcome → SiteTurn
-settled slots slot o = record { table = o.table; slots = slice_set slots slot o.slot; answer = o.answer }
+abbrev pub site_turn : List (List ℕ) → ℕ → Outcome → SiteTurn
+site_turn slots slot o = record { table = o.table; slots = slice_set slots slot o.slot; answer = o.answer }
 
 -- a command, given its site's table and the slots
 abbrev pub ActsAt : View → List (List ℕ) → Command → SiteTurn → Type 0
-ActsAt v slots (Move site article amount slot) t = t ≡ settled slots slot (moved v article amount (slice_index_or slots slot []))
-ActsAt v slots (Offer site peer article slot) t = t ≡ settled slots slot (offered v peer article (slice_index_or slots slot []))
+ActsAt v slots (Move site article amount slot) t = t ≡ site_turn slots slot (move_outcome v article amount (slice_index_or slots slot []))
+ActsAt v slots (Offer site peer article slot) t = t ≡ site_turn slots slot (offer_outcome v peer article (slice_index_or slots slot []))
 ActsAt v slots (Take site slot) t = TookSlot v (slice_index_or slots slot []) t.answer t.table × (t.slots ≡ slots)
-ActsAt v slots (Figure site article) t = t ≡ record { table = v; slots = slots; answer = figured v article }
-ActsAt v slots (OpenItem site peer article) t = t ≡ record { table = v; slots = slots; answer = flagged v peer article }
+ActsAt v slots (Figure site article) t = t ≡ record { table = v; slots = slots; answer = figure_reply v article }
+ActsAt v slots (OpenItem site peer article) t = t ≡ record { table = v; slots = slots; answer = open_item_reply v peer article }
 
 abbrev pub ActedAt : View → List (List ℕ) → Command → Result Answer LineFault → View → List (List ℕ) → Type 0
-ActedAt v slots c r after now_slots = ActsAt v slots c (record { table = after; slots = now_slots; answer = answered r })
+ActedAt v slots c r after now_slots = ActsAt v slots c (record { table = after; slots = now_slots; answer = reply_of r })
 
 -- a command, what it answers and the desk that it leaves: the other sites' tables stay
 abbrev pub Acts : DeskView → Command → Reply → DeskView → Type 0
@@ -101,7 +101,7 @@ Acts d c a after =
     ActsAt (table_at d site) d.slots c (record { table = table_at after site; slots = after.slots; answer = a }) × (after ≡ with_slots (with_table d site (table_at after site)) after.slots)
 
 abbrev pub Acted : DeskView → Command → Result Answer LineFault → DeskView → Type 0
-Acted d c r after = Acts d c (answered r) after
+Acted d c r after = Acts d c (reply_of r) after
 
 -- the letter that a command is printed under
 abbrev pub letter : Command → ℕ
@@ -113,8 +113,8 @@ letter (OpenItem site peer article) = 80
 
 -- a line of no known form changes nothing, and is printed under `?` as refused by 18
 abbrev pub PerformsCommand : DeskView → Option Command → DeskView → List ℕ → Type 0
-PerformsCommand d None after bytes = (after ≡ d) × (bytes ≡ printed 63 (Err 18))
-PerformsCommand d (Some c) after bytes = (a : Reply) × Acts d c a after × (bytes ≡ printed (letter c) a)
+PerformsCommand d None after bytes = (after ≡ d) × (bytes ≡ printed_line 63 (Err 18))
+PerformsCommand d (Some c) after bytes = (a : Reply) × Acts d c a after × (bytes ≡ printed_line (letter c) a)
 
 -- a line, the desk that it leaves and what it prints
 abbrev pub Performs : DeskView → List ℕ → DeskView → List ℕ → Type 0

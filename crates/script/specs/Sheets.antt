@@ -19,5 +19,5 @@ answer_bytes (Ok (IsOpen b)) = 32 ∷ decimal (cond b 1 0)
 answer_bytes (Err n) = codes " refused " ++ decimal n
 
 -- the letter, the answer and the byte that ends the line
-abbrev pub printed : ℕ → Reply → List ℕ
-printed letter answer = letter ∷ (answer_bytes answer ++ (10 ∷ []))
+abbrev pub printed_line : ℕ → Reply → List ℕ
+printed_line letter answer = letter ∷ (answer_bytes answer ++ (10 ∷ []))

@@ -14,11 +14,11 @@ use Rattle.runs.specs.Runs.{Group, Ran}
 use Rattle.script.specs.declared.answers.Answer.TheVariants as Answers
 use Rattle.script.specs.declared.commands.Command.{Command}
 use Rattle.script.specs.declared.commands.Command.TheVariants.{Move, Offer, Take, Figure, OpenItem}
-use Rattle.script.specs.Acts.{Reply, flagged, newly, refuse}
+use Rattle.script.specs.Acts.{Reply, open_item_reply, refuse, take_reply}
 use Rattle.script.specs.Desk.{DeskView, Performs, letter, table_at}
 use Rattle.script.specs.Lines.{command}
 use Rattle.script.specs.Scripts.{script}
-use Rattle.script.specs.Sheets.{printed}
+use Rattle.script.specs.Sheets.{printed_line}
 use Rattle.script.specs.Slots.{blank}
 
 -- THE DESK
@@ -45,9 +45,9 @@ abbrev pub counted_figure : Group → List Event → ℕ → ℕ → Reply
 counted_figure group run site article = cond (nat_lt article 4) (Ok (Answers.Figure (counted on_hand (book group run) site article))) (Err 4)
 
 -- how long the offer is, or the refusal
-abbrev pub measured : Result ℕ TableFault → Reply
-measured (Ok n) = Ok (Answers.Length n)
-measured (Err e) = refuse (shown e)
+abbrev pub offer_reply : Result ℕ TableFault → Reply
+offer_reply (Ok n) = Ok (Answers.Length n)
+offer_reply (Err e) = refuse (shown e)
 
 -- the calls of M up to its write, the latest first
 abbrev pub open_and_write : ℕ → Ticket → ℕ → ℤ → Result ℕ TableFault → List Event
@@ -73,22 +73,22 @@ pub data Makes (group : Group) (run : List Event) (d : DeskView) : Command → R
   offers :
       (site peer article slot : ℕ) (after : List ℕ) (r : Result ℕ TableFault) →
       IfErr r (λ e. ((shown e).number ≡ 4) ⊎ ((shown e).number ≡ 5)) →
-      Makes group run d (Offer site peer article slot) (measured r)
+      Makes group run d (Offer site peer article slot) (offer_reply r)
       (at site (Offers peer article blank r after) ∷ [])
   -- T, of just the bytes that the slot holds
   takes :
       (site slot : ℕ) (r : Result ℕ TableFault) →
-      Makes group run d (Take site slot) (newly r)
+      Makes group run d (Take site slot) (take_reply r)
       (at site (Takes (slice_index_or d.slots slot []) r) ∷ [])
   -- F, as the run counts, and P, as the site's table shows: they change no table
   figures : (site article : ℕ) → Makes group run d (Figure site article) (counted_figure group run site article) []
-  flags : (site peer article : ℕ) → Makes group run d (OpenItem site peer article) (flagged (table_at d site) peer article) []
+  open_items : (site peer article : ℕ) → Makes group run d (OpenItem site peer article) (open_item_reply (table_at d site) peer article) []
 
 -- a line makes these calls and prints this; a refused one leaves the desk as it was, its tables and its slots
 abbrev pub MakesLine : Group → List Event → DeskView → Option Command → List Event → DeskView → List ℕ → Type 0
-MakesLine group run d None calls after bytes = (calls ≡ []) × (after ≡ d) × (bytes ≡ printed 63 (Err 18))
+MakesLine group run d None calls after bytes = (calls ≡ []) × (after ≡ d) × (bytes ≡ printed_line 63 (Err 18))
 MakesLine group run d (Some c) calls after bytes =
-    (a : Reply) × Makes group run d c a calls × OnErr a (after ≡ d) × (bytes ≡ printed (letter c) a)
+    (a : Reply) × Makes group run d c a calls × OnErr a (after ≡ d) × (bytes ≡ printed_line (letter c) a)
 
 -- a line does to the desk what its letter does, makes these calls and prints this, and the desk that it leaves stands at
 -- the end of the longer run

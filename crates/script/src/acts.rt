@@ -1,5 +1,5 @@
 // What each command does at one site.
-ghost use Rattle.script.specs.Acts.{Moved, Offered, TookSlot, answered};
+ghost use Rattle.script.specs.Acts.{MovedSlot, OfferedSlot, TookSlot, reply_of};
 
 use crate::answers::Answer;
 use crate::faults::LineFault;
@@ -16,7 +16,7 @@ pub(crate) fn move_stock(
     amount: i32,
     slot: &mut Slot,
 ) -> Result<Answer, LineFault>
-    ensures { Moved table.old article amount slot.old result table.new slot.new }
+    ensures { MovedSlot table.old article amount slot.old result table.new slot.new }
 {
     let ticket = table.open()?;
     let mut buffer = [0; SLOT_BYTES];
@@ -47,7 +47,7 @@ pub(crate) fn offer_article(
     article: u8,
     slot: &mut Slot,
 ) -> Result<Answer, LineFault>
-    ensures { Offered table.now peer article slot.old result slot.new }
+    ensures { OfferedSlot table.now peer article slot.old result slot.new }
 {
     let mut buffer = [0; SLOT_BYTES];
     let length = table.offer(peer, article, &mut buffer)?;
@@ -57,7 +57,7 @@ pub(crate) fn offer_article(
 
 // Takes the message in the slot, and answers how many of its actions were new. The slot keeps its message.
 pub(crate) fn take_slot(table: &mut Table<OnHand, Shelf>, slot: &Slot) -> Result<Answer, LineFault>
-    ensures { TookSlot table.old slot.now (answered result) table.new }
+    ensures { TookSlot table.old slot.now (reply_of result) table.new }
 {
     Ok(Answer::Taken(table.take(slot.message())?))
 }

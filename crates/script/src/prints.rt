@@ -1,6 +1,6 @@
 ghost use Rattle.std.specs.Prelude.{◌≡◌, ◌<◌};
-ghost use Rattle.script.specs.Acts.{answered};
-ghost use Rattle.script.specs.Sheets.{printed, sheet_bytes};
+ghost use Rattle.script.specs.Acts.{reply_of};
+ghost use Rattle.script.specs.Sheets.{printed_line, sheet_bytes};
 
 use crate::answers::Answer;
 use crate::faults::LineFault;
@@ -9,7 +9,7 @@ use crate::sheets::SheetLine;
 // The line that is printed for a command of this letter.
 pub(crate) fn print(letter: char, outcome: Result<Answer, LineFault>) -> SheetLine
     requires { letter < 128 }
-    ensures { sheet_bytes result ≡ printed letter (answered outcome) }
+    ensures { sheet_bytes result ≡ printed_line letter (reply_of outcome) }
 {
     match outcome {
         Ok(Answer::Time(time)) => SheetLine::new(letter, " ", time),

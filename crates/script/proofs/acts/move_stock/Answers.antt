@@ -3,9 +3,9 @@ use Rattle.std.proofs.lemmas.Int.{to_z-of_z}
 use Rattle.kind.specs.Meanings.{on_hand}
 use Rattle.table.specs.Transactions.{Committed}
 use Rattle.script.specs.declared.answers.Answer.TheVariants.{Time}
-use Rattle.script.specs.Acts.{moved}
+use Rattle.script.specs.Acts.{move_outcome}
 use Rattle.script.proofs.Held.{blank_is, committed_as, move_granted}
-use Rattle.script.proofs.acts.move_stock.Goals.{in-Ok, in-Err}
+use Rattle.script.proofs.acts.move_stock.Goals.{in-Err, in-Ok}
 use Rattle.script.proofs.acts.move_stock.Goals as goal
 
 pub returns-in-Ok-posted : goal.returns-in-Ok-posted
@@ -25,6 +25,6 @@ returns-in-Ok-posted c =
           let third = subst (λ b. Committed on_hand u ticket b (Ok (done.0, n)) after end) blank_is (subst (λ r. Committed on_hand u ticket (replicate 1200 0) r after end) done.1 w.commit.ensures.does) in
           (λ i. record { table = w.table-is i; slot = (c.keep.ensures ∙ ap (take n) w.buffer-is) i; answer = Ok (Time (done.2 i)) })
           ∙ move_granted v c.open.new.self u after ticket article (to_z w32 (of_z w32 z)) w.in-Ok.time done.0 n slot end c.in_ok-ticket.ensures.does w.in-Ok.ensures.does third
-          ∙ ap (λ y. moved v article y slot) (to_z-of_z w32 z c.ranges.amount)
+          ∙ ap (λ y. move_outcome v article y slot) (to_z-of_z w32 z c.ranges.amount)
       | in-Err w ↦ cc
     ]

@@ -1,6 +1,6 @@
 use Rattle.std.proofs.Common.{get_or, ap, ◌∙◌, arith, subst, w32, SFits, rules}
 use Rattle.std.proofs.lemmas.Int.{to_z-of_z}
-use Rattle.script.specs.Acts.{answered, moved, offered}
+use Rattle.script.specs.Acts.{move_outcome, offer_outcome, reply_of}
 use Rattle.script.specs.Lines.{Placed}
 use Rattle.script.proofs.Turns.{as_named, settled_in}
 use Rattle.script.proofs.performs.act_at.Goals as goal
@@ -13,8 +13,8 @@ returns-in-Move c =
     let none = c.index-slots-from.result in
     let fits : SFits w32 m.amount = search rules in
     let placed = subst Placed m.is c.requires in
-    let settled = settled_in slots m.slot c.from.result none c.move_stock.new.slot (moved v m.article m.amount) _ (answered c.move_stock.result) c.from.ensures (omega (arith, placed)) (c.move_stock.ensures ∙ ap (λ z. moved v m.article z (get_or slots c.from.result none)) (to_z-of_z w32 m.amount fits)) in
-    as_named v slots _ _ _ m.is settled
+    let turn = settled_in slots m.slot c.from.result none c.move_stock.new.slot (move_outcome v m.article m.amount) _ (reply_of c.move_stock.result) c.from.ensures (omega (arith, placed)) (c.move_stock.ensures ∙ ap (λ z. move_outcome v m.article z (get_or slots c.from.result none)) (to_z-of_z w32 m.amount fits)) in
+    as_named v slots _ _ _ m.is turn
 
 pub returns-in-Offer : goal.returns-in-Offer
 returns-in-Offer c =
@@ -22,5 +22,5 @@ returns-in-Offer c =
     let slots = c.args.slots.now in
     let m = c.in-Offer in
     let placed = subst Placed m.is c.requires in
-    let settled = settled_in slots m.slot c.from-in-Offer.result c.index-slots-from-in-Offer.result c.offer_article.new.slot (offered v m.peer m.article) v (answered c.offer_article.result) c.from-in-Offer.ensures (omega (arith, placed)) c.offer_article.ensures in
-    as_named v slots _ _ _ m.is settled
+    let turn = settled_in slots m.slot c.from-in-Offer.result c.index-slots-from-in-Offer.result c.offer_article.new.slot (offer_outcome v m.peer m.article) v (reply_of c.offer_article.result) c.from-in-Offer.ensures (omega (arith, placed)) c.offer_article.ensures in
+    as_named v slots _ _ _ m.is turn
