@@ -22,8 +22,8 @@ at time site = record { coordinator = site; time = time; transaction = time; art
 
 -- MESSAGES
 
--- site 0 of three, which has its own actions and those of site 1 on article 0 up to time 2. It is cut down to what
--- the checks of a message look at, and is no table's view as it stands: a table has entries for 64 articles
+-- site 0 of three, which has its own actions and those of site 1 on article 0 up to time 2. It is cut down
+-- to what the checks of a message look at, and is no table's view: a table has entries for 64 articles
 abbrev pub setup : Setup
 setup = record {
   group = 1;

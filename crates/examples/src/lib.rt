@@ -1,5 +1,5 @@
-// The worked examples as one table (`Table.antt`), each row of which is proved of the definitions. The rows of
-// figures and of the order stand here once more as code, and are proved to come out so.
+// The worked examples as one table (`Table.antt`), each row of which is proved of the definitions. The rows
+// of figures and of the order stand here once more as code, and are proved to come out so.
 #![tactic(auto)]
 
 ghost use Rattle.std.specs.Prelude.{◌≡◌, true};

@@ -29,7 +29,9 @@ greatest_of ns = fold max 0 ns
 
 -- the greatest time that the site has reached, over all articles and coordinators
 abbrev pub greatest : Group → Book → ℕ → ℕ
-greatest group b s = greatest_of (map (λ a. greatest_of (map (b.reach s a) (range_with_len 0 group.sites))) (range_with_len 0 group.articles))
+greatest group b s =
+    greatest_of
+    (map (λ a. greatest_of (map (b.reach s a) (range_with_len 0 group.sites))) (range_with_len 0 group.articles))
 
 -- the site's next write: a transaction counts on from the greatest time, and is numbered by its first
 abbrev pub next_action : Group → Book → ℕ → ℕ → ℕ → ℤ → Action
@@ -44,7 +46,8 @@ next_action group b s article operation amount = record {
 
 -- the site's open transaction is now this
 abbrev pub with_pending : ℕ → List Action → Book → Book
-with_pending s xs b = record { pending = λ z. cond (z == s) xs (b.pending z); reach = b.reach; committed = b.committed }
+with_pending s xs b =
+    record { pending = λ z. cond (z == s) xs (b.pending z); reach = b.reach; committed = b.committed }
 
 -- the site has reached these times too, by article and coordinator
 abbrev pub reaching : ℕ → (ℕ → ℕ → ℕ) → Book → Book
@@ -68,9 +71,11 @@ taken_times bytes a q = highest a q (intervals_of 0 (records_in bytes))
 
 abbrev pub entered_call : Group → Book → ℕ → Call → Book
 entered_call group b s (Opens r) = b
-entered_call group b s (Writes t article operation amount (Ok time)) = with_pending s (b.pending s ++ next_action group b s article operation amount ∷ []) b
+entered_call group b s (Writes t article operation amount (Ok time)) =
+    with_pending s (b.pending s ++ next_action group b s article operation amount ∷ []) b
 entered_call group b s (Writes t article operation amount (Err e)) = b
-entered_call group b s (Commits t buffer (Ok n) after) = with_pending s [] (reaching s (own_times s (b.pending s)) (with_committed (b.pending s) b))
+entered_call group b s (Commits t buffer (Ok n) after) =
+    with_pending s [] (reaching s (own_times s (b.pending s)) (with_committed (b.pending s) b))
 entered_call group b s (Commits t buffer (Err e) after) = b
 entered_call group b s (Abandons t (Ok _)) = with_pending s [] b
 entered_call group b s (Abandons t (Err e)) = b
@@ -90,7 +95,8 @@ reaches b s x = nat_le x.time (b.reach s x.article x.coordinator)
 
 -- the article's figure, by all the committed actions on it that the site has, each once and in order
 abbrev pub counted : Meaning → Book → ℕ → ℕ → ℤ
-counted kind b s a = working kind.steps kind.starts (in_order (filter (λ x. (x.article == a) && reaches b s x) b.committed))
+counted kind b s a =
+    working kind.steps kind.starts (in_order (filter (λ x. (x.article == a) && reaches b s x) b.committed))
 
 -- the article's figure by all the committed actions on it, each once and in order
 abbrev pub counted_by_all : Meaning → Book → ℕ → ℤ

@@ -14,7 +14,9 @@ use Rattle.table.specs.View.{View}
 pub data Call : Type 0 where
   Opens : (answer : Result Ticket TableFault) → Call
   Writes : (ticket : Ticket) (article operation : ℕ) (amount : ℤ) (answer : Result ℕ TableFault) → Call
-  Commits : (ticket : Ticket) (buffer : List ℕ) (answer : Result (ℕ × ℕ) (TableFault × Ticket)) (after : List ℕ) → Call
+  Commits :
+      (ticket : Ticket) (buffer : List ℕ) (answer : Result (ℕ × ℕ) (TableFault × Ticket)) (after : List ℕ) →
+      Call
   Abandons : (ticket : Ticket) (answer : Result Unit (TableFault × Ticket)) → Call
   Offers : (peer article : ℕ) (buffer : List ℕ) (answer : Result ℕ TableFault) (after : List ℕ) → Call
   Takes : (bytes : List ℕ) (answer : Result ℕ TableFault) → Call
@@ -31,7 +33,8 @@ at site call = record { site = site; call = call }
 -- the call leads from one state of its site's table to another, as its contract says
 abbrev pub Does : Meaning → View → Call → View → Type 0
 Does kind v (Opens r) w = Opened kind v r w
-Does kind v (Writes t article operation amount r) w = (operation < 256) × FitsSigned w32 amount × Wrote kind v t article operation amount r w
+Does kind v (Writes t article operation amount r) w =
+    (operation < 256) × FitsSigned w32 amount × Wrote kind v t article operation amount r w
 Does kind v (Commits t buffer r after) w = Committed kind v t buffer r w after
 Does kind v (Abandons t r) w = Abandoned kind v t r w
 Does kind v (Offers peer article buffer r after) w = Offered kind v peer article buffer r after × (w ≡ v)

@@ -24,7 +24,8 @@ pub record Group : Type 0 where
   pub agrees : (s : ℕ) → s < sites → OfGroup number sites articles s (setup s)
   pub few_places : (s : ℕ) → s < sites → capacity s ≤ 1024
 
--- what is taken was written in an earlier event, byte for byte; it may be taken late, often, anywhere or never
+-- what is taken was written in an earlier event, byte for byte; it may be taken late, often, anywhere or
+-- never
 abbrev pub Honest : List Event → Call → Type 0
 Honest before (Opens r) = Unit {0}
 Honest before (Writes t article operation amount r) = Unit {0}
@@ -35,7 +36,8 @@ Honest before (Takes bytes (Ok n)) = Has (map (λ event. wrote event.call) befor
 Honest before (Takes bytes (Err e)) = Unit {0}
 Honest before (Archives article r) = Unit {0}
 
--- one event leads from these tables, by site, to those: the table of its site changes as its call says, and no other
+-- one event leads from these tables, by site, to those: the table of its site changes as its call says, and
+-- no other
 pub record Turn (kind : Meaning) (group : Group) (before : List Event) (event : Event) (old views : ℕ → View) : Type 0 where
   pub of_group : event.site < group.sites
   pub does : Does kind (old event.site) event.call (views event.site)
@@ -45,4 +47,5 @@ pub record Turn (kind : Meaning) (group : Group) (before : List Event) (event : 
 -- the events, the latest first, lead from new tables to these
 abbrev pub Ran : Meaning → Group → List Event → (ℕ → View) → Type 0
 Ran kind group [] views = (s : ℕ) → s < group.sites → views s ≡ fresh kind (group.setup s) (group.capacity s)
-Ran kind group (event ∷ before) views = (old : ℕ → View) × Ran kind group before old × Turn kind group before event old views
+Ran kind group (event ∷ before) views =
+    (old : ℕ → View) × Ran kind group before old × Turn kind group before event old views

@@ -40,21 +40,33 @@ refused_at v slot r = record { table = v; slot = slot; answer = refuse r }
 -- M, with the write done: commit into the slot, or abandon
 abbrev pub outcome_once_written : View → View → ℕ → List ℕ → Outcome
 outcome_once_written v w time slot =
-    by_refusal (commit_refusal on_hand w (ticket on_hand v)) (refused_at (abandoned w) slot) (record { table = committed on_hand w; slot = fitting (transaction_bytes on_hand w) blank; answer = Ok (Time time) })
+    by_refusal (commit_refusal on_hand w (ticket on_hand v)) (refused_at (abandoned w) slot)
+    (record {
+      table = committed on_hand w;
+      slot = fitting (transaction_bytes on_hand w) blank;
+      answer = Ok (Time time);
+    })
 
 -- M, with the transaction open: write with operation 1, or abandon
 abbrev pub outcome_once_opened : View → View → ℕ → ℤ → List ℕ → Outcome
 outcome_once_opened v w article amount slot =
-    by_refusal (write_refusal on_hand w (ticket on_hand v) article 1 amount) (refused_at (abandoned w) slot) (outcome_once_written v (written w (new_action w article 1 amount)) (next_time w) slot)
+    by_refusal (write_refusal on_hand w (ticket on_hand v) article 1 amount) (refused_at (abandoned w) slot)
+    (outcome_once_written v (written w (new_action w article 1 amount)) (next_time w) slot)
 
 -- M: a transaction of one write. It answers the write's time
 abbrev pub move_outcome : View → ℕ → ℤ → List ℕ → Outcome
-move_outcome v article amount slot = by_refusal (open_refusal v) (refused_at v slot) (outcome_once_opened v (opened v) article amount slot)
+move_outcome v article amount slot =
+    by_refusal (open_refusal v) (refused_at v slot) (outcome_once_opened v (opened v) article amount slot)
 
 -- O: the offer goes into the slot, and its length is answered
 abbrev pub offer_outcome : View → ℕ → ℕ → List ℕ → Outcome
 offer_outcome v peer article slot =
-    by_refusal (offer_refusal on_hand v peer article blank) (refused_at v slot) (record { table = v; slot = offer_bytes on_hand v peer article; answer = Ok (Length (length (offer_bytes on_hand v peer article))) })
+    by_refusal (offer_refusal on_hand v peer article blank) (refused_at v slot)
+    (record {
+      table = v;
+      slot = offer_bytes on_hand v peer article;
+      answer = Ok (Length (length (offer_bytes on_hand v peer article)));
+    })
 
 -- how many actions were new, or the refusal
 abbrev pub take_reply : Result ℕ TableFault → Reply
@@ -71,7 +83,8 @@ figure_reply v article = by_refusal (figure_refusal v article) refuse (Ok (Figur
 
 -- P: does the site show an open item?
 abbrev pub open_item_reply : View → ℕ → ℕ → Reply
-open_item_reply v peer article = by_refusal (open_item_refusal v article peer) refuse (Ok (IsOpen (open_item v article peer)))
+open_item_reply v peer article =
+    by_refusal (open_item_refusal v article peer) refuse (Ok (IsOpen (open_item v article peer)))
 
 -- the reply that a command's result stands for
 abbrev pub reply_of : Result Answer LineFault → Reply
@@ -81,7 +94,9 @@ reply_of (Err e) = Err (number_of e)
 -- what the two commands that write into a slot leave and answer
 
 abbrev pub MovedSlot : View → ℕ → ℤ → List ℕ → Result Answer LineFault → View → List ℕ → Type 0
-MovedSlot v article amount slot r after now_held = record { table = after; slot = now_held; answer = reply_of r } ≡ move_outcome v article amount slot
+MovedSlot v article amount slot r after now_held =
+    record { table = after; slot = now_held; answer = reply_of r } ≡ move_outcome v article amount slot
 
 abbrev pub OfferedSlot : View → ℕ → ℕ → List ℕ → Result Answer LineFault → List ℕ → Type 0
-OfferedSlot v peer article slot r now_held = record { table = v; slot = now_held; answer = reply_of r } ≡ offer_outcome v peer article slot
+OfferedSlot v peer article slot r now_held =
+    record { table = v; slot = now_held; answer = reply_of r } ≡ offer_outcome v peer article slot

@@ -85,14 +85,20 @@ site_turn slots slot o = record { table = o.table; slots = slice_set slots slot 
 
 -- a command, given its site's table and the slots
 abbrev pub ActsAt : View → List (List ℕ) → Command → SiteTurn → Type 0
-ActsAt v slots (Move site article amount slot) t = t ≡ site_turn slots slot (move_outcome v article amount (slice_index_or slots slot []))
-ActsAt v slots (Offer site peer article slot) t = t ≡ site_turn slots slot (offer_outcome v peer article (slice_index_or slots slot []))
-ActsAt v slots (Take site slot) t = TookSlot v (slice_index_or slots slot []) t.answer t.table × (t.slots ≡ slots)
-ActsAt v slots (Figure site article) t = t ≡ record { table = v; slots = slots; answer = figure_reply v article }
-ActsAt v slots (OpenItem site peer article) t = t ≡ record { table = v; slots = slots; answer = open_item_reply v peer article }
+ActsAt v slots (Move site article amount slot) t =
+    t ≡ site_turn slots slot (move_outcome v article amount (slice_index_or slots slot []))
+ActsAt v slots (Offer site peer article slot) t =
+    t ≡ site_turn slots slot (offer_outcome v peer article (slice_index_or slots slot []))
+ActsAt v slots (Take site slot) t =
+    TookSlot v (slice_index_or slots slot []) t.answer t.table × (t.slots ≡ slots)
+ActsAt v slots (Figure site article) t =
+    t ≡ record { table = v; slots = slots; answer = figure_reply v article }
+ActsAt v slots (OpenItem site peer article) t =
+    t ≡ record { table = v; slots = slots; answer = open_item_reply v peer article }
 
 abbrev pub ActedAt : View → List (List ℕ) → Command → Result Answer LineFault → View → List (List ℕ) → Type 0
-ActedAt v slots c r after now_slots = ActsAt v slots c (record { table = after; slots = now_slots; answer = reply_of r })
+ActedAt v slots c r after now_slots =
+    ActsAt v slots c (record { table = after; slots = now_slots; answer = reply_of r })
 
 -- a command, what it answers and the desk that it leaves: the other sites' tables stay
 abbrev pub Acts : DeskView → Command → Reply → DeskView → Type 0

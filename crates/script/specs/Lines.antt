@@ -1,5 +1,6 @@
--- Which lines there are. A line is a letter and a body: `M`, `O`, `T`, `F` or `P`, and then fields with nothing
--- between or after them. Each field is one digit, but for the sign and the amount of `M`. Assumes nothing.
+-- Which lines there are. A line is a letter and a body: `M`, `O`, `T`, `F` or `P`, and then fields with
+-- nothing between or after them. Each field is one digit, but for the sign and the amount of `M`. Assumes
+-- nothing.
 use Rattle.std.specs.Prelude.{◌≡◌, ℕ, ◌+◌, ◌-◌, ◌*◌, ◌<◌, Bool, true, false, cond, ◌&&◌, ◌||◌, List, length, drop, ℤ, pos, neg_ℤ, Some, None, Option, MatchOption, ◌==◌, nat_le, nat_lt, slice_index}
 use Rattle.script.specs.declared.commands.Command.{Command}
 use Rattle.script.specs.declared.commands.Command.TheVariants.{Move, Offer, Take, Figure, OpenItem}
@@ -40,20 +41,33 @@ signed_by sign n = cond (sign == 45) (neg_ℤ (pos n)) (pos n)
 -- site, article, sign, six digits, slot
 abbrev pub is_move : List ℕ → Bool
 is_move body =
-    (length body == 10) && (is_site (place body 0) && (is_digit (place body 1) && (is_sign (place body 2) && (are_digits (place body 3) (place body 4) (place body 5) && (are_digits (place body 6) (place body 7) (place body 8) && is_digit (place body 9))))))
+    (length body == 10) &&
+    (is_site (place body 0) && (is_digit (place body 1) && (is_sign (place body 2) &&
+    (are_digits (place body 3) (place body 4) (place body 5) &&
+    (are_digits (place body 6) (place body 7) (place body 8) && is_digit (place body 9))))))
 
 abbrev pub amount_of : List ℕ → ℤ
-amount_of body = signed_by (place body 2) (1000 * hundreds (place body 3) (place body 4) (place body 5) + hundreds (place body 6) (place body 7) (place body 8))
+amount_of body =
+    signed_by (place body 2)
+    (1000 * hundreds (place body 3) (place body 4) (place body 5) + hundreds (place body 6) (place body 7) (place body 8))
 
 abbrev pub move_of : List ℕ → Option Command
-move_of body = cond (is_move body) (Some (Move (value (place body 0)) (value (place body 1)) (amount_of body) (value (place body 9)))) None
+move_of body =
+    cond (is_move body)
+    (Some (Move (value (place body 0)) (value (place body 1)) (amount_of body) (value (place body 9))))
+    None
 
 -- site, peer, article, slot
 abbrev pub is_offer : List ℕ → Bool
-is_offer body = length body == 4 && (is_site (place body 0) && (is_digit (place body 1) && (is_digit (place body 2) && is_digit (place body 3))))
+is_offer body =
+    length body == 4 &&
+    (is_site (place body 0) && (is_digit (place body 1) && (is_digit (place body 2) && is_digit (place body 3))))
 
 abbrev pub offer_of : List ℕ → Option Command
-offer_of body = cond (is_offer body) (Some (Offer (value (place body 0)) (value (place body 1)) (value (place body 2)) (value (place body 3)))) None
+offer_of body =
+    cond (is_offer body)
+    (Some (Offer (value (place body 0)) (value (place body 1)) (value (place body 2)) (value (place body 3))))
+    None
 
 -- site, slot
 abbrev pub is_take : List ℕ → Bool
@@ -71,14 +85,22 @@ figure_of body = cond (is_figure body) (Some (Figure (value (place body 0)) (val
 
 -- site, peer, article
 abbrev pub is_open_item : List ℕ → Bool
-is_open_item body = length body == 3 && (is_site (place body 0) && (is_digit (place body 1) && is_digit (place body 2)))
+is_open_item body =
+    length body == 3 && (is_site (place body 0) && (is_digit (place body 1) && is_digit (place body 2)))
 
 abbrev pub open_item_of : List ℕ → Option Command
-open_item_of body = cond (is_open_item body) (Some (OpenItem (value (place body 0)) (value (place body 1)) (value (place body 2)))) None
+open_item_of body =
+    cond (is_open_item body)
+    (Some (OpenItem (value (place body 0)) (value (place body 1)) (value (place body 2))))
+    None
 
 abbrev pub command_of : ℕ → List ℕ → Option Command
 command_of letter body =
-    cond (letter == 77) (move_of body) (cond (letter == 79) (offer_of body) (cond (letter == 84) (take_of body) (cond (letter == 70) (figure_of body) (cond (letter == 80) (open_item_of body) None))))
+    cond (letter == 77) (move_of body)
+    (cond (letter == 79) (offer_of body)
+    (cond (letter == 84) (take_of body)
+    (cond (letter == 70) (figure_of body)
+    (cond (letter == 80) (open_item_of body) None))))
 
 -- the command that a line writes; none where it has no known form, as a line of no bytes
 abbrev pub command : List ℕ → Option Command
@@ -103,10 +125,14 @@ Placed (OpenItem site peer article) = site < 3
 -- what reading one field answers
 
 abbrev pub DigitBelow : ℕ → ℕ → Option ℕ → Type 0
-DigitBelow bound b r = MatchOption r (is_digit_below bound b ≡ false) (λ d. (is_digit_below bound b ≡ true) × (d ≡ value b) × (d < bound))
+DigitBelow bound b r =
+    MatchOption r (is_digit_below bound b ≡ false)
+    (λ d. (is_digit_below bound b ≡ true) × (d ≡ value b) × (d < bound))
 
 abbrev pub Hundreds : ℕ → ℕ → ℕ → Option ℕ → Type 0
-Hundreds b c d r = MatchOption r (are_digits b c d ≡ false) (λ n. (are_digits b c d ≡ true) × (n ≡ hundreds b c d) × (n < 1000))
+Hundreds b c d r =
+    MatchOption r (are_digits b c d ≡ false)
+    (λ n. (are_digits b c d ≡ true) × (n ≡ hundreds b c d) × (n < 1000))
 
 abbrev pub Sign : ℕ → ℕ → Option ℤ → Type 0
 Sign b n r = MatchOption r (is_sign b ≡ false) (λ z. (is_sign b ≡ true) × (z ≡ signed_by b n))

@@ -24,12 +24,14 @@ PerformsAll d (line ∷ lines) after bytes =
     (between : DeskView) × (sheet : List ℕ) × (rest : List ℕ) ×
     Performs d line between sheet × PerformsAll between lines after rest × (bytes ≡ sheet ++ rest)
 
--- all lines are run and printed; or some are, and one more is run, whose bytes do not fit: what was to be printed with
--- them is longer than the capacity that the output had
+-- all lines are run and printed; or some are, and one more is run, whose bytes do not fit: what was to be
+-- printed with them is longer than the capacity that the output had
 abbrev pub Scripted : DeskView → List ℕ → List ℕ → ℕ → Result Unit AllocError → DeskView → List ℕ → Type 0
-Scripted d input out capacity (Ok _) after grown = (sheet : List ℕ) × PerformsAll d (script input) after sheet × (grown ≡ out ++ sheet)
+Scripted d input out capacity (Ok _) after grown =
+    (sheet : List ℕ) × PerformsAll d (script input) after sheet × (grown ≡ out ++ sheet)
 Scripted d input out capacity (Err _) after grown =
-    (done : List (List ℕ)) × (line : List ℕ) × (later : List (List ℕ)) × (script input ≡ done ++ (line ∷ later)) ×
+    (done : List (List ℕ)) × (line : List ℕ) × (later : List (List ℕ)) ×
+    (script input ≡ done ++ (line ∷ later)) ×
     (between : DeskView) × (sheet : List ℕ) × (lost : List ℕ) ×
     PerformsAll d done between sheet × Performs between line after lost ×
     (grown ≡ out ++ sheet) × (capacity < length grown + length lost)
