@@ -13,7 +13,7 @@ use Rattle.runs.specs.Events.{Event}
 use Rattle.runs.specs.Events.Call.{Takes}
 use Rattle.runs.specs.Runs.{Group, Ran}
 
--- the action's coordinator is a site of the group, and has it
+-- the action is on an article of the group, and its coordinator is a site of the group, which has it
 pub record HadByItsCoordinator (group : Group) (b : Book) (x : Action) : Type 0 where
   pub coordinated : x.coordinator < group.sites
   pub listed : x.article < group.articles

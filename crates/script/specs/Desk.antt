@@ -104,7 +104,8 @@ ActedAt v slots c r after now_slots =
 abbrev pub Acts : DeskView → Command → Reply → DeskView → Type 0
 Acts d c a after =
     let site = site_of c in
-    ActsAt (table_at d site) d.slots c (record { table = table_at after site; slots = after.slots; answer = a }) × (after ≡ with_slots (with_table d site (table_at after site)) after.slots)
+    ActsAt (table_at d site) d.slots c (record { table = table_at after site; slots = after.slots; answer = a }) ×
+    (after ≡ with_slots (with_table d site (table_at after site)) after.slots)
 
 abbrev pub Acted : DeskView → Command → Result Answer LineFault → DeskView → Type 0
 Acted d c r after = Acts d c (reply_of r) after
