@@ -1,5 +1,4 @@
 pub mod Apartness
-pub mod Ends
 pub mod Members
 pub mod Placing
 pub mod Precedence

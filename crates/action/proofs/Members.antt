@@ -45,10 +45,6 @@ module _ {X : Type 0} (p : X → Bool) where
   pub has_kept_by_parts : (xs : List X) (x : X) → Has (filter p xs) x → Has xs x × (p x ≡ true)
   has_kept_by_parts xs x h = (all-has (Has xs) (filter p xs) x (all_kept_by p (Has xs) xs (all_has_itself xs)) h, all-has (λ y. p y ≡ true) (filter p xs) x (kept_by_passes p xs) h)
 
-  pub kept_by_all : (xs : List X) → AllByRecursion (λ x. p x ≡ true) xs → filter p xs ≡ xs
-  kept_by_all [] h = refl
-  kept_by_all (x ∷ xs) h = λ i. cond (h.0 i) (x ∷ kept_by_all xs h.1 i) (kept_by_all xs h.1 i)
-
   pub kept_by_none : (xs : List X) → AllByRecursion (λ x. p x ≡ false) xs → filter p xs ≡ []
   kept_by_none [] h = refl
   kept_by_none (x ∷ xs) h = λ i. cond (h.0 i) (x ∷ kept_by_none xs h.1 i) (kept_by_none xs h.1 i)

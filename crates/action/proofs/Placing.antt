@@ -7,9 +7,8 @@ use Rattle.std.proofs.lemmas.List.{drop_at, length-append, take_at}
 use Rattle.std.proofs.lemmas.Bool.{not-true, not-false}
 use Rattle.action.specs.declared.orders.Action.{Action}
 use Rattle.action.specs.Order.{Apart, Ascending, Distinct, Leads, in_order, place_of, placed, precedes}
-use Rattle.action.proofs.Apartness.{distinct_append, distinct_append_parts}
 use Rattle.action.proofs.Members.{all_append_parts, all_from_has, has_append_cases, has_cons_cases, has_first, has_later, has_none}
-use Rattle.action.proofs.Precedence.{apart_sym, precedes_trans}
+use Rattle.action.proofs.Precedence.{precedes_trans}
 use Rattle.action.proofs.Ranks.{AllRanked, Ranked, apart_ranked, distinct_ranked, ranked_else, ranked_sym}
 use Rattle.action.proofs.Sequence.{ascending_parts, ascending_together, leads_from_all}
 
@@ -91,9 +90,6 @@ placed_all P xs x all one =
     let parts = all_append_parts P g.before g.after (subst (AllByRecursion P) g.whole all) in
     subst (AllByRecursion P) (sym g.put) (All-append P g.before (x ∷ g.after) parts.0 (one, parts.1))
 
-pub has_placed_cases : (xs : List Action) (x y : Action) → Has (placed xs x) y → Has xs y ⊎ (y ≡ x)
-has_placed_cases xs x y h = all-has (λ z. Has xs z ⊎ (z ≡ x)) (placed xs x) y (placed_all (λ z. Has xs z ⊎ (z ≡ x)) xs x (all_from_has (λ z. Has xs z ⊎ (z ≡ x)) xs (λ z k. inl k)) (inr refl)) h
-
 pub has_placed : (xs : List Action) (x y : Action) → Has xs y ⊎ (y ≡ x) → Has (placed xs x) y
 has_placed xs x y h = subst (λ (l : List Action). Has l y) (sym g.put) (⊎_elim old new h)
   where
@@ -136,20 +132,6 @@ placed_ranked xs x up ranked =
     both zs [] a b = tt
     both zs (y ∷ ys) a b = ((a.0, b.0), both zs ys a.1 b.1)
 
-pub placed_ascending : (xs : List Action) (x : Action) → Ascending xs → AllByRecursion (Apart x) xs → Ascending (placed xs x)
-placed_ascending xs x up apart = placed_ranked xs x up (All-weaker (Apart x) (Ranked x) (apart_ranked x) xs apart)
-
-pub placed_distinct : (xs : List Action) (x : Action) → Distinct xs → AllByRecursion (Apart x) xs → Distinct (placed xs x)
-placed_distinct xs x distinct apart =
-    let g = placing xs x in
-    let parts = distinct_append_parts g.before g.after (subst Distinct g.whole distinct) in
-    let from = all_append_parts (Apart x) g.before g.after (subst (AllByRecursion (Apart x)) g.whole apart) in
-    subst Distinct (sym g.put) (distinct_append g.before (x ∷ g.after) parts.0 (from.1, parts.1) (both g.after g.before from.0 parts.2))
-  where
-    both : (zs ys : List Action) → AllByRecursion (Apart x) ys → AllByRecursion (λ y. AllByRecursion (Apart y) zs) ys → AllByRecursion (λ y. AllByRecursion (Apart y) (x ∷ zs)) ys
-    both zs [] a b = tt
-    both zs (y ∷ ys) a b = ((apart_sym x y a.0, b.0), both zs ys a.1 b.1)
-
 -- MANY ACTIONS
 
 pub length_folded_placed : (xs new : List Action) → length (fold placed xs new) ≡ length xs + length new
@@ -186,18 +168,7 @@ pub folded_placed_ascending : (xs new : List Action) → Ascending xs → Distin
 folded_placed_ascending xs new up distinct apart =
     folded_placed_ranked xs new up (distinct_ranked new distinct) (All-weaker (λ x. AllByRecursion (Apart x) xs) (λ x. AllByRecursion (Ranked x) xs) (λ x. All-weaker (Apart x) (Ranked x) (apart_ranked x) xs) new apart)
 
-pub folded_placed_distinct : (xs new : List Action) → Distinct xs → Distinct new → AllByRecursion (λ x. AllByRecursion (Apart x) xs) new → Distinct (fold placed xs new)
-folded_placed_distinct xs [] old distinct apart = old
-folded_placed_distinct xs (x ∷ new) old distinct apart =
-    folded_placed_distinct (placed xs x) new (placed_distinct xs x old apart.0) distinct.1 (others_placed Apart apart_sym xs x new distinct.0 apart.1)
-
 -- ALL IN ORDER
-
-pub length_in_order : (xs : List Action) → length (in_order xs) ≡ length xs
-length_in_order xs = length_folded_placed [] xs ∙ omega arith
-
-pub in_order_all : (P : Action → Type 0) (xs : List Action) → AllByRecursion P xs → AllByRecursion P (in_order xs)
-in_order_all P xs all = folded_placed_all P [] xs tt all
 
 pub in_order_ascending : (xs : List Action) → Distinct xs → Ascending (in_order xs)
 in_order_ascending xs distinct = folded_placed_ascending [] xs tt distinct (all_from_has (λ x. AllByRecursion (Apart x) []) xs (λ x k. tt))

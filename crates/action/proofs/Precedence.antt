@@ -1,9 +1,9 @@
 -- The order of two actions is strict. Assumes nothing.
-use Rattle.std.proofs.Common.{◌≡◌, ◌<◌, ◌≤◌, true, sym, arith}
+use Rattle.std.proofs.Common.{◌≡◌, ◌<◌, ◌≤◌, true, arith}
 use Rattle.std.proofs.lemmas.Bool.{lt-ltb, or_left}
 use Rattle.std.proofs.lemmas.Bool.Decides.{nat_tests}
 use Rattle.action.specs.declared.orders.Action.{Action}
-use Rattle.action.specs.Order.{Apart, precedes}
+use Rattle.action.specs.Order.{precedes}
 
 pub precedes_by_time : (x y : Action) → x.time < y.time → precedes x y ≡ true
 precedes_by_time x y h = or_left _ _ (lt-ltb x.time y.time h)
@@ -19,6 +19,3 @@ precedes_asymmetric x y h k = grind (arith, nat_tests)
 
 pub precedes_trans : (x y z : Action) → precedes x y ≡ true → precedes y z ≡ true → precedes x z ≡ true
 precedes_trans x y z h k = grind (arith, nat_tests)
-
-pub apart_sym : (x y : Action) → Apart x y → Apart y x
-apart_sym x y apart same at = apart (sym same) (sym at)

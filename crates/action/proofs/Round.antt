@@ -1,5 +1,5 @@
 -- An action's bytes stand for that action. Assumes nothing.
-use Rattle.std.proofs.Common.{◌≡◌, ℕ, ◌+◌, ◌*◌, ◌/◌, ◌%◌, ◌^◌, ◌<◌, length, ℤ, refl, ap, ◌∙◌, arith, w32, SFits, to_z, of_z}
+use Rattle.std.proofs.Common.{◌≡◌, ℕ, ◌+◌, ◌*◌, ◌/◌, ◌%◌, ◌^◌, ◌<◌, ℤ, ap, ◌∙◌, arith, w32, SFits, to_z, of_z}
 use Rattle.std.proofs.lemmas.Nat.{from_be_bytes-to_be_bytes_4}
 use mir.Facts.{Fits-of_z}
 use Rattle.std.proofs.lemmas.Int.{to_z-of_z}
@@ -15,6 +15,3 @@ module _ (a : Action) (t : a.time < 2 ^ 32) (n : a.transaction < 2 ^ 32) (z : SF
       let bits : of_z w32 a.amount < 2 ^ 32 = (Fits-of_z z).fits in
       let f : ℕ → ℕ → ℤ → Action = λ t n z. record { coordinator = a.coordinator; time = t; transaction = n; article = a.article; operation = a.operation; amount = z } in
       λ i. f (four_bytes a.time t i) (four_bytes a.transaction n i) ((ap (to_z w32) (four_bytes _ bits) ∙ to_z-of_z w32 a.amount z) i)
-
-pub length_action_bytes : (a : Action) → length (action_bytes a) ≡ 16
-length_action_bytes a = refl

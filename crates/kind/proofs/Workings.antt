@@ -18,9 +18,6 @@ module _ (steps : ℤ → ℕ → ℤ → ℤ) where
   working_append f [] ys = refl
   working_append f (x ∷ xs) ys = working_append (steps f x.operation x.amount) xs ys
 
-  pub working_push : (f : ℤ) (xs : List Action) (x : Action) → working steps f (xs ++ x ∷ []) ≡ steps (working steps f xs) x.operation x.amount
-  working_push f xs x = working_append f xs (x ∷ [])
-
   module _ (step_fits : (f : ℤ) (o : ℕ) (a : ℤ) → SFits w64 f → SFits w64 (steps f o a)) where
     pub working_fits : (f : ℤ) (xs : List Action) → SFits w64 f → SFits w64 (working steps f xs)
     working_fits f [] fits = fits
