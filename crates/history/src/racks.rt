@@ -1,4 +1,4 @@
-ghost use Rattle.std.specs.Prelude.{◌≡◌, ◌≤◌, min, [], length, IfOk, vec_capacity};
+ghost use Rattle.std.specs.Prelude.{◌≡◌, ◌≤◌, min, [], length, IfOk, IsOk, vec_capacity};
 
 use crate::faults::{HistoryFault, check_insert, check_place};
 use crate::interface::History;
@@ -17,9 +17,10 @@ pub struct Rack {
 }
 
 impl Rack {
-    // An empty rack of so many places, 1,024 at the most.
+    // An empty rack of so many places, 1,024 at the most. One of no places asks for no memory.
     pub fn new(heap: Global, places: usize) -> Result<Rack, AllocError>
-        ensures { IfOk result (λ rack. (rack.actions.items ≡ []) × (rack.places ≡ min places 1024)) }
+        ensures made { IfOk result (λ rack. (rack.actions.items ≡ []) × (rack.places ≡ min places 1024)) }
+        ensures succeeds { places ≡ 0 → IsOk result }
     {
         let places = places.min(MOST_PLACES);
         let actions = Vec::with_capacity(heap, places)?;
