@@ -15,7 +15,7 @@ use Rattle.message.specs.declared.reading.Progress.{Progress}
 use Rattle.message.specs.declared.records.Header.{Header}
 use Rattle.message.specs.declared.records.Record.{Record}
 use Rattle.message.specs.declared.records.Record.TheVariants as RecordKinds
-use Rattle.message.specs.Checks.{Beginning, Reason, StartsWith, bytes_follow, no_record, other_table, rule_broken}
+use Rattle.message.specs.Checks.{Beginning, Reason, StartsWith, broken, cut, foreign, trailing}
 use Rattle.message.specs.Decoding.{decoded}
 use Rattle.message.specs.Fields.{Fitting}
 use Rattle.message.specs.Format.{record_bytes}
@@ -75,8 +75,8 @@ module _ (kind : Meaning) (setup : Setup) where
 
   -- the rest of refused bytes starts with no record that leads on
   pub no_further : (p q : Progress) (at : ℕ) (rest : List ℕ) (why : Refusal) (r : Record) → Reason kind setup p at rest why → is_due p.due r ≡ true → admitted kind setup p r ≡ Ok q → Fitting r → StartsWith rest r → ⊥
-  no_further p q at rest why r (no_record n) is so fits s = n.none r is fits s
-  no_further p q at rest why r (other_table o) is so fits s =
+  no_further p q at rest why r (cut n) is so fits s = n.none r is fits s
+  no_further p q at rest why r (foreign o) is so fits s =
       let head = RecordKinds.Header o.header in
       let header_due = ap (λ d. is_due d head) o.first in
       let same = same_record p.due r head rest is header_due fits o.fitting s o.starts in
@@ -86,10 +86,10 @@ module _ (kind : Meaning) (setup : Setup) where
     where
       headers : (g h : Header) → RecordKinds.Header g ≡ RecordKinds.Header h → g ≡ h
       headers g h e = cc
-  no_further p q at rest why r (rule_broken b) is so fits s =
-      let same = same_record p.due r b.broken rest is b.was_due fits b.fitting s b.starts in
+  no_further p q at rest why r (broken b) is so fits s =
+      let same = same_record p.due r b.breaks rest is b.was_due fits b.fitting s b.starts in
       not_none q (sym b.stops ∙ ap (onward kind setup (Some p)) (sym same) ∙ onward_passes kind setup p q r is so)
-  no_further p q at rest why r (bytes_follow f) is so fits s = false≢true (ap (λ d. is_due d r) (sym f.ended) ∙ is)
+  no_further p q at rest why r (trailing f) is so fits s = false≢true (ap (λ d. is_due d r) (sym f.ended) ∙ is)
 
   -- every lawful beginning of refused bytes begins the one that they are refused after
   pub longest : (bytes : List ℕ) (rs qs : List Record) (p q : Progress) (rest less : List ℕ) (at : ℕ) (why : Refusal) → Beginning kind setup bytes rs p rest → Reason kind setup p at rest why → Beginning kind setup bytes qs q less → Begins qs rs
@@ -101,8 +101,8 @@ module _ (kind : Meaning) (setup : Setup) where
       decide (inl (t ∷ ts, is)) =
           let f = first_on kind setup p q t ts (after_beginning rs (t ∷ ts) p q b.lawful (ap (reading kind setup) (sym is) ∙ c.lawful)) in
           let fits = (all_append_parts Fitting rs (t ∷ ts) (subst (AllByRecursion Fitting) is c.fitting)).1.0 in
-          let cut = ap (λ l. flat_map record_bytes l ++ less) is ∙ ap (λ l. l ++ less) (flat_map-append record_bytes rs (t ∷ ts)) ∙ append_assoc (flat_map record_bytes rs) (flat_map record_bytes (t ∷ ts)) less in
-          let rest-is = append_cancel_left (flat_map record_bytes rs) rest _ (sym b.front ∙ c.front ∙ cut) in
+          let parts = ap (λ l. flat_map record_bytes l ++ less) is ∙ ap (λ l. l ++ less) (flat_map-append record_bytes rs (t ∷ ts)) ∙ append_assoc (flat_map record_bytes rs) (flat_map record_bytes (t ∷ ts)) less in
+          let rest-is = append_cancel_left (flat_map record_bytes rs) rest _ (sym b.front ∙ c.front ∙ parts) in
           absurd (no_further p f.next at rest why t reason f.was_due f.passes fits (flat_map record_bytes ts ++ less, rest-is ∙ starts t ts less))
 
 -- a header is due at the start only
@@ -133,10 +133,10 @@ module _ (kind : Meaning) (setup : Setup) where
 
   -- the place of a refusal is the length of the lawful beginning before it
   pub place_is : (rs : List Record) (p : Progress) (rest : List ℕ) (why : Refusal) → reading kind setup rs ≡ Some p → Reason kind setup p (length (flat_map record_bytes rs)) rest why → why.place ≡ length (flat_map record_bytes rs)
-  place_is rs p rest why h (no_record n) = ap (λ r. r.place) n.is
-  place_is rs p rest why h (other_table o) = ap (λ r. r.place) o.is ∙ sym (ap (λ l. length (flat_map record_bytes l)) (header_first rs p h o.first))
-  place_is rs p rest why h (rule_broken b) = ap (λ r. r.place) b.is
-  place_is rs p rest why h (bytes_follow f) = ap (λ r. r.place) f.is
+  place_is rs p rest why h (cut n) = ap (λ r. r.place) n.is
+  place_is rs p rest why h (foreign o) = ap (λ r. r.place) o.is ∙ sym (ap (λ l. length (flat_map record_bytes l)) (header_first rs p h o.first))
+  place_is rs p rest why h (broken b) = ap (λ r. r.place) b.is
+  place_is rs p rest why h (trailing f) = ap (λ r. r.place) f.is
 
 -- what begins another is no longer, and as long only where it is the same
 pub begins_length : (rs qs : List Record) → Begins rs qs → length (flat_map record_bytes rs) ≤ length (flat_map record_bytes qs)

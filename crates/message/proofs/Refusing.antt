@@ -13,7 +13,7 @@ use Rattle.message.specs.declared.reading.Progress.{Progress}
 use Rattle.message.specs.declared.records.Header.{Header}
 use Rattle.message.specs.declared.records.Record.{Record}
 use Rattle.message.specs.declared.records.Record.TheVariants as RecordKinds
-use Rattle.message.specs.Checks.{Named, Reason, StartsWith, bytes_follow, no_record, other_table, rule_broken}
+use Rattle.message.specs.Checks.{Named, Reason, StartsWith, broken, cut, foreign, trailing}
 use Rattle.message.specs.Decoding.{decoded}
 use Rattle.message.specs.Faults.{fault_at, shown}
 use Rattle.message.specs.Fields.{Fitting}
@@ -108,8 +108,8 @@ module _ (kind : Meaning) (setup : Setup) where
         by_verdict r is (Err f) so e =
             let back = whole_back rest bytes p.due r is in
             ⊎_elim
-            (λ k. other_table (record { is = why_is Foreign f k.0 e; first = k.1.2; header = k.1.0; fitting = subst Fitting k.1.1 back.1; starts = subst (StartsWith rest) k.1.1 (drop (length (record_bytes r)) rest, back.2); other = k.1.3 }))
-            (λ k. rule_broken (record { is = why_is Broken f k.0 e; broken = r; was_due = back.0; fitting = back.1; starts = (drop (length (record_bytes r)) rest, back.2); ours = k.1; stops = ap (λ b. cond b (result_ok (admitted kind setup p r)) None) back.0 ∙ ap result_ok so }))
+            (λ k. foreign (record { is = why_is Foreign f k.0 e; first = k.1.2; header = k.1.0; fitting = subst Fitting k.1.1 back.1; starts = subst (StartsWith rest) k.1.1 (drop (length (record_bytes r)) rest, back.2); other = k.1.3 }))
+            (λ k. broken (record { is = why_is Broken f k.0 e; breaks = r; was_due = back.0; fitting = back.1; starts = (drop (length (record_bytes r)) rest, back.2); ours = k.1; stops = ap (λ b. cond b (result_ok (admitted kind setup p r)) None) back.0 ∙ ap result_ok so }))
             (refused_told r f back.0 so)
 
         by_decoded : (d : Result (Option Record) Flaw) → decoded p.due rest ≡ d → stepped kind setup p at d ≡ Err why → Reason kind setup p at rest (shown why)
@@ -117,8 +117,8 @@ module _ (kind : Meaning) (setup : Setup) where
         by_decoded (Ok None) is e = cc
         by_decoded (Err f) is e =
             ⊎_elim
-            (λ k. let t = cut_told rest p.due (is ∙ ap Err (sym k)) in no_record (record { is = why_is Cut f k e; not_ended = t.0; none = t.1 }))
-            (λ k. bytes_follow (record { is = why_is Trailing f k.0 e; ended = k.1; more = k.2 }))
+            (λ k. let t = cut_told rest p.due (is ∙ ap Err (sym k)) in cut (record { is = why_is Cut f k e; not_ended = t.0; none = t.1 }))
+            (λ k. trailing (record { is = why_is Trailing f k.0 e; ended = k.1; more = k.2 }))
             (flaw_told rest p.due f is)
 
     -- a step that ended had the end due, and no bytes left

@@ -9,7 +9,7 @@ use Rattle.kind.specs.Meaning.{Meaning}
 use Rattle.message.specs.declared.faults.ReaderFault.{ReaderFault}
 use Rattle.message.specs.declared.reading.Due.TheVariants as Due
 use Rattle.message.specs.declared.reading.Progress.{Progress}
-use Rattle.message.specs.Checks.{Accepted, Accepts, Beginning, Longest, Reason, Refused, Unique, bytes_follow, no_record, other_table, rule_broken}
+use Rattle.message.specs.Checks.{Accepted, Accepts, Beginning, Longest, Reason, Refused, Unique, broken, cut, foreign, trailing}
 use Rattle.message.specs.Faults.{shown}
 use Rattle.message.specs.Format.{Message, format, record_bytes, records}
 use Rattle.message.specs.Lawful.{LawfulMessage, action_count}
@@ -54,10 +54,10 @@ module _ (kind : Meaning) (setup : Setup) (bytes : List ℕ) (fits : (i : ℕ) �
 
 -- nothing is refused where the end is due and no bytes are left
 none_refused : (kind : Meaning) (setup : Setup) (p : Progress) (at : ℕ) (rest : List ℕ) (why : Refusal) → p.due ≡ Due.End → rest ≡ [] → Reason kind setup p at rest why → ⊥
-none_refused kind setup p at rest why end none (no_record n) = n.not_ended end
-none_refused kind setup p at rest why end none (other_table o) = let e : Due.Header ≡ Due.End = sym o.first ∙ end in cc
-none_refused kind setup p at rest why end none (rule_broken b) = false≢true (ap (λ d. is_due d b.broken) (sym end) ∙ b.was_due)
-none_refused kind setup p at rest why end none (bytes_follow f) = omega (arith, f.more, ap length none)
+none_refused kind setup p at rest why end none (cut n) = n.not_ended end
+none_refused kind setup p at rest why end none (foreign o) = let e : Due.Header ≡ Due.End = sym o.first ∙ end in cc
+none_refused kind setup p at rest why end none (broken b) = false≢true (ap (λ d. is_due d b.breaks) (sym end) ∙ b.was_due)
+none_refused kind setup p at rest why end none (trailing f) = omega (arith, f.more, ap length none)
 
 module _ (kind : Meaning) (setup : Setup) (small : kind.number ≤ 255) (bytes : List ℕ) where
   -- a lawful message is a lawful beginning of its format, at whose end the end is due

@@ -50,13 +50,13 @@ Named kind setup h = (h.group ≡ setup.group) × (h.kind ≡ kind.number)
 -- REFUSALS
 
 -- 9: a record is due, and the rest starts with none of its kind
-pub record NoRecord (p : Progress) (at : ℕ) (rest : List ℕ) (refusal : Refusal) : Type 0 where
+pub record Cut (p : Progress) (at : ℕ) (rest : List ℕ) (refusal : Refusal) : Type 0 where
   pub is : refusal ≡ by_reader 9 at
   pub not_ended : p.due ≡ Due.End → ⊥
   pub none : (r : Record) → is_due p.due r ≡ true → Fitting r → StartsWith rest r → ⊥
 
 -- 10: the rest starts with a header of another group or kind
-pub record OtherTable (kind : Meaning) (setup : Setup) (p : Progress) (rest : List ℕ) (refusal : Refusal) : Type 0 where
+pub record Foreign (kind : Meaning) (setup : Setup) (p : Progress) (rest : List ℕ) (refusal : Refusal) : Type 0 where
   pub is : refusal ≡ by_reader 10 0
   pub first : p.due ≡ Due.Header
   pub header : Header
@@ -65,27 +65,27 @@ pub record OtherTable (kind : Meaning) (setup : Setup) (p : Progress) (rest : Li
   pub other : Named kind setup header → ⊥
 
 -- 11: the rest starts with a record of the kind due that breaks a rule, and it is no header of another group or kind
-pub record RuleBroken (kind : Meaning) (setup : Setup) (p : Progress) (at : ℕ) (rest : List ℕ) (refusal : Refusal) : Type 0 where
+pub record Broken (kind : Meaning) (setup : Setup) (p : Progress) (at : ℕ) (rest : List ℕ) (refusal : Refusal) : Type 0 where
   pub is : refusal ≡ by_reader 11 at
-  pub broken : Record
-  pub was_due : is_due p.due broken ≡ true
-  pub fitting : Fitting broken
-  pub starts : StartsWith rest broken
-  pub ours : (h : Header) → broken ≡ RecordKinds.Header h → Named kind setup h
-  pub stops : onward kind setup (Some p) broken ≡ None
+  pub breaks : Record
+  pub was_due : is_due p.due breaks ≡ true
+  pub fitting : Fitting breaks
+  pub starts : StartsWith rest breaks
+  pub ours : (h : Header) → breaks ≡ RecordKinds.Header h → Named kind setup h
+  pub stops : onward kind setup (Some p) breaks ≡ None
 
 -- 12: the end is due, and bytes follow
-pub record BytesFollow (p : Progress) (at : ℕ) (rest : List ℕ) (refusal : Refusal) : Type 0 where
+pub record Trailing (p : Progress) (at : ℕ) (rest : List ℕ) (refusal : Refusal) : Type 0 where
   pub is : refusal ≡ by_reader 12 at
   pub ended : p.due ≡ Due.End
   pub more : 1 ≤ length rest
 
 -- why the rest of the bytes, from place at on, is refused
 pub data Reason (kind : Meaning) (setup : Setup) (p : Progress) (at : ℕ) (rest : List ℕ) (refusal : Refusal) : Type 0 where
-  no_record : NoRecord p at rest refusal → Reason kind setup p at rest refusal
-  other_table : OtherTable kind setup p rest refusal → Reason kind setup p at rest refusal
-  rule_broken : RuleBroken kind setup p at rest refusal → Reason kind setup p at rest refusal
-  bytes_follow : BytesFollow p at rest refusal → Reason kind setup p at rest refusal
+  cut : Cut p at rest refusal → Reason kind setup p at rest refusal
+  foreign : Foreign kind setup p rest refusal → Reason kind setup p at rest refusal
+  broken : Broken kind setup p at rest refusal → Reason kind setup p at rest refusal
+  trailing : Trailing p at rest refusal → Reason kind setup p at rest refusal
 
 -- bytes are refused after a lawful beginning, and its length is the place
 abbrev pub Refused : Meaning → Setup → List ℕ → Result ℕ ReaderFault → Type 0
