@@ -1,5 +1,5 @@
 -- Lawful beginnings of the same bytes: of two, one begins the other. Assumes nothing.
-use Rattle.std.proofs.Common.{◌≡◌, ℕ, ◌-◌, ◌≤◌, Bool, true, false, cond, ltb, ◌⊎◌, List, [], ◌∷◌, ◌++◌, length, Some, Ok, Option, Result, fold, sym, refl, ap, ◌∙◌, subst, inl, inr, arith}
+use Rattle.std.proofs.Common.{◌≡◌, ℕ, true, ◌⊎◌, List, [], ◌∷◌, ◌++◌, length, Some, Ok, Option, Result, fold, sym, refl, ap, ◌∙◌, subst, inl, inr, arith}
 use Rattle.std.specs.List.{flat_map, AllByRecursion}
 use Rattle.std.proofs.lemmas.List.{append_assoc, append_cancel_left, append-nil, length-append}
 use Rattle.std.proofs.lemmas.Bool.{false≢true}
@@ -19,10 +19,10 @@ use Rattle.message.specs.Checks.{Beginning, Reason, StartsWith, broken, cut, for
 use Rattle.message.specs.Decoding.{decoded}
 use Rattle.message.specs.Fields.{Fitting}
 use Rattle.message.specs.Format.{record_bytes}
-use Rattle.message.specs.Progress.{admitted, due_after, named, start}
+use Rattle.message.specs.Progress.{admitted, named, start}
 use Rattle.message.specs.Reading.{is_due, onward, reading}
 use Rattle.message.proofs.Decodings.{decoded_format}
-use Rattle.message.proofs.Onward.{action_on, first_on, header_on, interval_on, not_none, section_on, some_same}
+use Rattle.message.proofs.Onward.{first_on, header_on, not_none}
 use Rattle.message.proofs.Refusing.{named_told}
 use Rattle.message.proofs.Steps.{onward_passes, record_size}
 
@@ -105,43 +105,7 @@ module _ (kind : Meaning) (setup : Setup) where
           let rest-is = append_cancel_left (flat_map record_bytes rs) rest _ (sym b.front ∙ c.front ∙ parts) in
           absurd (no_further p f.next at rest why t reason f.was_due f.passes fits (flat_map record_bytes ts ++ less, rest-is ∙ starts t ts less))
 
--- a header is due at the start only
-no_header : (intervals actions sections : ℕ) → due_after intervals actions sections ≡ Due.Header → ⊥
-no_header intervals actions sections h = by_tests (ltb 0 intervals) (ltb 0 actions) (ltb 0 sections) h
-  where
-    by_tests : (a b c : Bool) → cond a Due.Interval (cond b Due.Action (cond c Due.Section Due.End)) ≡ Due.Header → ⊥
-    by_tests true b c e = cc
-    by_tests false true c e = cc
-    by_tests false false true e = cc
-    by_tests false false false e = cc
-
-module _ (kind : Meaning) (setup : Setup) where
-  after_one : (p q : Progress) (r : Record) (d : Due) → is_due d r ≡ true → admitted kind setup p r ≡ Ok q → q.due ≡ Due.Header → ⊥
-  after_one p q r Due.Header is so h = let t = header_on kind setup p q r is so in let e : Due.Section ≡ Due.Header = ap (λ x. x.due) (sym t.4) ∙ h in cc
-  after_one p q r Due.Section is so h = let t = section_on kind setup p q r is so in let e : Due.Interval ≡ Due.Header = ap (λ x. x.due) (sym t.3) ∙ h in cc
-  after_one p q r Due.Interval is so h = let t = interval_on kind setup p q r is so in no_header (p.intervals - 1) p.actions p.sections (ap (λ x. x.due) (sym t.3) ∙ h)
-  after_one p q r Due.Action is so h = let t = action_on kind setup p q r is so in no_header 0 (p.actions - 1) p.sections (ap (λ x. x.due) (sym t.3) ∙ h)
-  after_one p q r Due.End is so h = false≢true is
-
-  after_some : (p e : Progress) (rs : List Record) → (p.due ≡ Due.Header → ⊥) → fold (onward kind setup) (Some p) rs ≡ Some e → e.due ≡ Due.Header → ⊥
-  after_some p e [] not h is = not (ap (λ x. x.due) (some_same p e h) ∙ is)
-  after_some p e (r ∷ rs) not h is = let f = first_on kind setup p e r rs h in after_some f.next e rs (after_one p f.next r p.due f.was_due f.passes) f.onto is
-
-  header_first : (rs : List Record) (p : Progress) → reading kind setup rs ≡ Some p → p.due ≡ Due.Header → rs ≡ []
-  header_first [] p h is = refl
-  header_first (r ∷ rs) p h is = let f = first_on kind setup start p r rs h in absurd (after_some f.next p rs (after_one start f.next r Due.Header f.was_due f.passes) f.onto is)
-
-  -- the place of a refusal is the length of the lawful beginning before it
-  pub place_is : (rs : List Record) (p : Progress) (rest : List ℕ) (why : Refusal) → reading kind setup rs ≡ Some p → Reason kind setup p (length (flat_map record_bytes rs)) rest why → why.place ≡ length (flat_map record_bytes rs)
-  place_is rs p rest why h (cut n) = ap (λ r. r.place) n.is
-  place_is rs p rest why h (foreign o) = ap (λ r. r.place) o.is ∙ sym (ap (λ l. length (flat_map record_bytes l)) (header_first rs p h o.first))
-  place_is rs p rest why h (broken b) = ap (λ r. r.place) b.is
-  place_is rs p rest why h (trailing f) = ap (λ r. r.place) f.is
-
--- what begins another is no longer, and as long only where it is the same
-pub begins_length : (rs qs : List Record) → Begins rs qs → length (flat_map record_bytes rs) ≤ length (flat_map record_bytes qs)
-begins_length rs qs (ts, is) = omega (arith, ap (λ l. length (flat_map record_bytes l)) is ∙ ap length (flat_map-append record_bytes rs ts) ∙ length-append (flat_map record_bytes rs) (flat_map record_bytes ts))
-
+-- what begins another is as long only where it is the same
 pub begins_same : (rs qs : List Record) → Begins rs qs → flat_map record_bytes rs ≡ flat_map record_bytes qs → rs ≡ qs
 begins_same rs qs ([], is) same = sym (is ∙ append-nil rs)
 begins_same rs qs (t ∷ ts, is) same =

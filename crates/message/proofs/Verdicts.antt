@@ -9,13 +9,13 @@ use Rattle.kind.specs.Meaning.{Meaning}
 use Rattle.message.specs.declared.faults.ReaderFault.{ReaderFault}
 use Rattle.message.specs.declared.reading.Due.TheVariants as Due
 use Rattle.message.specs.declared.reading.Progress.{Progress}
-use Rattle.message.specs.Checks.{Accepted, Accepts, Beginning, Longest, Reason, Refused, Unique, broken, cut, foreign, trailing}
+use Rattle.message.specs.Checks.{Accepted, Accepts, Beginning, Reason, Refused, Unique, broken, cut, foreign, trailing}
 use Rattle.message.specs.Faults.{shown}
 use Rattle.message.specs.Format.{Message, format, record_bytes, records}
 use Rattle.message.specs.Lawful.{LawfulMessage, action_count}
 use Rattle.message.specs.Progress.{start}
 use Rattle.message.specs.Reading.{Scanned, is_action, is_due, reading}
-use Rattle.message.proofs.Beginnings.{Begins, after_beginning, at_the_end, beginnings, begins_length, begins_same, longest, place_is}
+use Rattle.message.proofs.Beginnings.{Begins, after_beginning, at_the_end, beginnings, begins_same, longest}
 use Rattle.message.proofs.Messages.{counted, lawful_reads, reads_lawful}
 use Rattle.message.proofs.Onward.{some_same}
 use Rattle.message.proofs.Refusing.{ended_told, reason}
@@ -42,15 +42,6 @@ module _ (kind : Meaning) (setup : Setup) (bytes : List ℕ) (fits : (i : ℕ) �
     record { lawful = b.lawful; fitting = b.fitting; front = b.front },
     subst (λ (n : ℕ). Reason kind setup p n (drop at bytes) (shown e)) b.far (reason kind setup p at (drop at bytes) e (λ i. subst (λ (n : ℕ). n < 256) (sym (get_or-drop at bytes i 0)) (fits (at + i))) h),
   )
-
-  pub scan_longest : (r : Result ℕ ReaderFault) → Scanned kind setup bytes r → Longest kind setup bytes r
-  scan_longest (Ok n) h = tt
-  scan_longest (Err e) h =
-      let told = scan_refused (Err e) h in
-      let rs = told.0 in
-      let p = told.1 in
-      let rest = told.2 in
-      λ qs q less c. omega (arith, begins_length qs rs (longest kind setup bytes rs qs p q rest less _ (shown e) told.3 told.4 c), place_is kind setup rs p rest (shown e) told.3.lawful told.4)
 
 -- nothing is refused where the end is due and no bytes are left
 none_refused : (kind : Meaning) (setup : Setup) (p : Progress) (at : ℕ) (rest : List ℕ) (why : Refusal) → p.due ≡ Due.End → rest ≡ [] → Reason kind setup p at rest why → ⊥

@@ -93,7 +93,7 @@ Refused kind setup bytes (Ok n) = Unit {0}
 Refused kind setup bytes (Err e) =
     (rs : List Record) × (p : Progress) × (rest : List ℕ) × Beginning kind setup bytes rs p rest × Reason kind setup p (length (flat_map record_bytes rs)) rest (shown e)
 
--- no lawful beginning goes past the place of a refusal
-abbrev pub Longest : Meaning → Setup → List ℕ → Result ℕ ReaderFault → Type 0
-Longest kind setup bytes (Ok n) = Unit {0}
-Longest kind setup bytes (Err e) = (rs : List Record) (p : Progress) (rest : List ℕ) → Beginning kind setup bytes rs p rest → length (flat_map record_bytes rs) ≤ (shown e).place
+-- what is refused is refused by one number at one place
+abbrev pub Once : Meaning → Setup → List ℕ → Type 0
+Once kind setup bytes =
+    (e d : ReaderFault) → Refused kind setup bytes (Err e) → Refused kind setup bytes (Err d) → shown e ≡ shown d

@@ -1,5 +1,5 @@
 ghost use Rattle.std.specs.Prelude.{◌≡◌};
-ghost use Rattle.message.specs.Checks.{Accepted, Accepts, Longest, Refused, Unique};
+ghost use Rattle.message.specs.Checks.{Accepted, Accepts, Once, Refused, Unique};
 ghost use Rattle.message.specs.Reading.{Scanned, is_action};
 
 use crate::cursor::Reader;
@@ -36,7 +36,7 @@ pub fn check<K: Kind>(setup: Setup, bytes: &[u8]) -> Result<usize, ReaderFault>
     ensures accepts { Accepts K.means setup bytes.now result }
     ensures unique { Unique K.means setup bytes.now }
     ensures refused { Refused K.means setup bytes.now result }
-    ensures longest { Longest K.means setup bytes.now result }
+    ensures once { Once K.means setup bytes.now }
 {
     scan::<K>(setup, bytes)
 }

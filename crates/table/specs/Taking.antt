@@ -8,7 +8,7 @@ use Rattle.kind.specs.Meaning.{Meaning}
 use Rattle.message.specs.declared.records.Interval.{Interval}
 use Rattle.message.specs.declared.faults.ReaderFault.{ReaderFault}
 use Rattle.message.specs.Faults as ReaderFaults
-use Rattle.message.specs.Checks.{Longest, Refused}
+use Rattle.message.specs.Checks.{Refused}
 use Rattle.message.specs.Format.{Message, carried, format, records, stretches}
 use Rattle.message.specs.Lawful.{LawfulMessage}
 use Rattle.message.specs.Walks.{first_of}
@@ -77,9 +77,7 @@ taken kind v m = record {
 
 -- 9 to 12: the bytes are no message for this table, by the reader's fault and place
 abbrev pub Misread : Meaning → View → List ℕ → Refusal → Type 0
-Misread kind v bytes refusal =
-    (e : ReaderFault) × (ReaderFaults.shown e ≡ refusal) × Refused kind v.setup bytes (Err e)
-    × Longest kind v.setup bytes (Err e)
+Misread kind v bytes refusal = (e : ReaderFault) × (ReaderFaults.shown e ≡ refusal) × Refused kind v.setup bytes (Err e)
 
 -- 13, 14 and 16: the bytes are a message for this table, and it meets a check
 abbrev pub Checked : Meaning → View → List ℕ → Refusal → Type 0

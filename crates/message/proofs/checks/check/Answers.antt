@@ -1,4 +1,5 @@
-use Rattle.message.proofs.Verdicts.{messages_unique, scan_accepted, scan_accepts, scan_longest, scan_refused}
+use Rattle.message.proofs.Once.{refused_once}
+use Rattle.message.proofs.Verdicts.{messages_unique, scan_accepted, scan_accepts, scan_refused}
 use Rattle.message.proofs.checks.check.Goals as goal
 
 pub returns : goal.returns
@@ -13,5 +14,5 @@ returns g c =
       accepts = scan_accepts kind setup small bytes (λ i. (c.type_inv.bytes i).fits) r c.scan.ensures;
       unique = messages_unique kind setup small bytes;
       refused = scan_refused kind setup bytes (λ i. (c.type_inv.bytes i).fits) r c.scan.ensures;
-      longest = scan_longest kind setup bytes (λ i. (c.type_inv.bytes i).fits) r c.scan.ensures;
+      once = refused_once kind setup bytes;
     }
