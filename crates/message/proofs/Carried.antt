@@ -11,9 +11,9 @@ use Rattle.kind.specs.Meaning.{Meaning}
 use Rattle.message.specs.declared.records.Interval.{Interval}
 use Rattle.message.specs.declared.records.Record.{Record}
 use Rattle.message.specs.declared.records.Record.TheVariants as RecordKinds
-use Rattle.message.specs.Format.{Message, Section, carried, records, section_records, stretches}
+use Rattle.message.specs.Format.{Message, Section, carried, records, section_records, told_intervals}
 use Rattle.message.specs.Lawful.{Carries, LawfulAction, LawfulInterval, LawfulMessage, LawfulSection, Rising}
-use Rattle.message.specs.Walks.{actions_of, first_of, intervals_of}
+use Rattle.message.specs.Walks.{actions_of, first_place, intervals_of}
 use Rattle.message.proofs.SectionIntervals.{all_from_map}
 
 -- LISTS IN A ROW
@@ -37,7 +37,7 @@ has_map f xs x h = all-has (λ y. Has (map f xs) (f y)) xs x (all_from_map (Has 
 -- FINDING NONE
 
 -- no interval passes the test where none is found that does
-pub none_found : (test : ℕ → Interval → Bool) (at a : ℕ) (rs : List Record) → first_of test at a rs ≡ None → AllByRecursion (λ h. test h.0 h.1 ≡ false) (intervals_of a rs)
+pub none_found : (test : ℕ → Interval → Bool) (at a : ℕ) (rs : List Record) → first_place test at a rs ≡ None → AllByRecursion (λ h. test h.0 h.1 ≡ false) (intervals_of a rs)
 none_found test at a [] h = tt
 none_found test at a (RecordKinds.Header _ ∷ rs) h = none_found test (at + 6) a rs h
 none_found test at a (RecordKinds.Section s ∷ rs) h = none_found test (at + 5) s.article rs h
@@ -68,18 +68,18 @@ actions_on (x ∷ xs) rs = ap (λ l. x ∷ l) (actions_on xs rs)
 
 -- OF A WHOLE MESSAGE
 
-sections_stretches : (a : ℕ) (ss : List Section) → intervals_of a (flat_map section_records ss) ≡ flat_map (λ s. map (λ i. (s.article, i)) s.intervals) ss
-sections_stretches a [] = refl
-sections_stretches a (s ∷ ss) =
-    intervals_on s.article s.intervals (map RecordKinds.Action s.actions) (flat_map section_records ss) ∙ ap (λ l. map (λ i. (s.article, i)) s.intervals ++ l) (intervals_past s.article s.actions (flat_map section_records ss) ∙ sections_stretches s.article ss)
+sections_told : (a : ℕ) (ss : List Section) → intervals_of a (flat_map section_records ss) ≡ flat_map (λ s. map (λ i. (s.article, i)) s.intervals) ss
+sections_told a [] = refl
+sections_told a (s ∷ ss) =
+    intervals_on s.article s.intervals (map RecordKinds.Action s.actions) (flat_map section_records ss) ∙ ap (λ l. map (λ i. (s.article, i)) s.intervals ++ l) (intervals_past s.article s.actions (flat_map section_records ss) ∙ sections_told s.article ss)
 
 sections_carried : (ss : List Section) → actions_of (flat_map section_records ss) ≡ flat_map (λ s. s.actions) ss
 sections_carried [] = refl
 sections_carried (s ∷ ss) =
     actions_past s.intervals (map RecordKinds.Action s.actions) (flat_map section_records ss) ∙ actions_on s.actions (flat_map section_records ss) ∙ ap (λ l. s.actions ++ l) (sections_carried ss)
 
-pub stretches_of : (a : ℕ) (m : Message) → intervals_of a (records m) ≡ stretches m
-stretches_of a m = sections_stretches a m.sections
+pub told_intervals_of : (a : ℕ) (m : Message) → intervals_of a (records m) ≡ told_intervals m
+told_intervals_of a m = sections_told a m.sections
 
 pub carried_of : (m : Message) → actions_of (records m) ≡ carried m
 carried_of m = sections_carried m.sections
@@ -90,8 +90,8 @@ module _ (kind : Meaning) (setup : Setup) (m : Message) (l : LawfulMessage kind 
   lawful_section_lem : (s : Section) → Has m.sections s → LawfulSection kind setup s
   lawful_section_lem s h = all-has (LawfulSection kind setup) m.sections s l.sections h
 
-  pub stretches_lawful : AllByRecursion (λ h. (h.0 < setup.articles) × LawfulInterval setup h.1) (stretches m)
-  stretches_lawful =
+  pub told_intervals_lawful : AllByRecursion (λ h. (h.0 < setup.articles) × LawfulInterval setup h.1) (told_intervals m)
+  told_intervals_lawful =
       all_joined (λ s. map (λ i. (s.article, i)) s.intervals) (λ h. (h.0 < setup.articles) × LawfulInterval setup h.1) m.sections (λ s h.
       let lawful = lawful_section_lem s h in
       All-map (λ h. (h.0 < setup.articles) × LawfulInterval setup h.1) (λ i. (s.article, i)) s.intervals (All-weaker (LawfulInterval setup) (λ i. (s.article < setup.articles) × LawfulInterval setup i) (λ i k. (lawful.listed, k)) s.intervals lawful.intervals))
@@ -104,13 +104,13 @@ module _ (kind : Meaning) (setup : Setup) (m : Message) (l : LawfulMessage kind 
       All-weaker (LawfulAction kind s) (λ x. (s : Section) × LawfulSection kind setup s × LawfulAction kind s x) (λ x k. (s, lawful, k)) s.actions lawful.actions)
 
   -- an interval of the message carries it
-  pub carried_within : AllByRecursion (λ x. (i : Interval) × Has (stretches m) (x.article, i) × Carries i x) (carried m)
+  pub carried_within : AllByRecursion (λ x. (i : Interval) × Has (told_intervals m) (x.article, i) × Carries i x) (carried m)
   carried_within =
-      all_joined (λ s. s.actions) (λ x. (i : Interval) × Has (stretches m) (x.article, i) × Carries i x) m.sections (λ s h.
-      All-weaker (LawfulAction kind s) (λ x. (i : Interval) × Has (stretches m) (x.article, i) × Carries i x) (λ x k.
+      all_joined (λ s. s.actions) (λ x. (i : Interval) × Has (told_intervals m) (x.article, i) × Carries i x) m.sections (λ s h.
+      All-weaker (LawfulAction kind s) (λ x. (i : Interval) × Has (told_intervals m) (x.article, i) × Carries i x) (λ x k.
       let i = k.carried.0 in
-      let on_it : Has (stretches m) (s.article, i) = has_joined (λ s. map (λ i. (s.article, i)) s.intervals) m.sections s (s.article, i) h (has_map (λ i. (s.article, i)) s.intervals i k.carried.1) in
-      (i, subst (λ (a : ℕ). Has (stretches m) (a, i)) (sym k.on_article) on_it, k.carried.2)) s.actions (lawful_section_lem s h).actions)
+      let on_it : Has (told_intervals m) (s.article, i) = has_joined (λ s. map (λ i. (s.article, i)) s.intervals) m.sections s (s.article, i) h (has_map (λ i. (s.article, i)) s.intervals i k.carried.1) in
+      (i, subst (λ (a : ℕ). Has (told_intervals m) (a, i)) (sym k.on_article) on_it, k.carried.2)) s.actions (lawful_section_lem s h).actions)
 
 sections_ranked : (kind : Meaning) (setup : Setup) (ss : List Section) → AllByRecursion (LawfulSection kind setup) ss → Rising (map (λ s. s.article) ss) → AllRanked (flat_map (λ s. s.actions) ss)
 sections_ranked kind setup [] lawful rising = tt

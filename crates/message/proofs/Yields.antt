@@ -12,7 +12,7 @@ use Rattle.message.specs.declared.records.Record.{Record}
 use Rattle.message.specs.declared.records.Record.TheVariants as RecordKinds
 use Rattle.message.specs.Format.{record_bytes}
 use Rattle.message.specs.Found.{actions_among, found_from, placed, stretches_among, stretches_in, told}
-use Rattle.message.specs.Walks.{actions_of, first_of, intervals_of, next_records, record_in, records_by, records_in}
+use Rattle.message.specs.Walks.{actions_of, first_place, intervals_of, next_records, record_in, records_by, records_in}
 use Rattle.message.proofs.Walking.{records_from}
 
 -- ITERATORS THAT ARE SEEN AS WHAT THEY HAVE LEFT
@@ -45,7 +45,7 @@ told_placed at a (RecordKinds.Interval i ∷ rs) = ap (λ is. (a, i) ∷ is) (to
 told_placed at a (RecordKinds.Action _ ∷ rs) = told_placed (at + 16) a rs
 
 -- the first stretch that passes a test
-pub first_placed : (test : ℕ → Interval → Bool) (at a : ℕ) (rs : List Record) → option_map (λ s. s.offset) (find (λ s. test s.article s.interval) (stretches_among a (placed at rs))) ≡ first_of test at a rs
+pub first_placed : (test : ℕ → Interval → Bool) (at a : ℕ) (rs : List Record) → option_map (λ s. s.offset) (find (λ s. test s.article s.interval) (stretches_among a (placed at rs))) ≡ first_place test at a rs
 first_placed test at a [] = refl
 first_placed test at a (RecordKinds.Header _ ∷ rs) = first_placed test (at + 6) a rs
 first_placed test at a (RecordKinds.Section s ∷ rs) = first_placed test (at + 5) s.article rs
@@ -57,7 +57,7 @@ first_placed test at a (RecordKinds.Interval i ∷ rs) = by_test (test a i) _ _ 
     by_test false o n e = e
 
 -- the place that `find` over a message's intervals answers, in the form in which std's lemma on `find` says what it found
-pub first_in : (test : ℕ → Interval → Bool) (bytes : List ℕ) (r : Option Stretch) → option_map (λ s. s) r ≡ find (λ s. test s.article s.interval) (stretches_in bytes) → option_map (λ s. s.offset) r ≡ first_of test 0 0 (records_in bytes)
+pub first_in : (test : ℕ → Interval → Bool) (bytes : List ℕ) (r : Option Stretch) → option_map (λ s. s) r ≡ find (λ s. test s.article s.interval) (stretches_in bytes) → option_map (λ s. s.offset) r ≡ first_place test 0 0 (records_in bytes)
 first_in test bytes None e = ap (option_map (λ s. s.offset)) e ∙ first_placed test 0 0 (records_in bytes)
 first_in test bytes (Some s) e = ap (option_map (λ s. s.offset)) e ∙ first_placed test 0 0 (records_in bytes)
 

@@ -62,5 +62,5 @@ abbrev pub carried : Message → List Action
 carried m = flat_map (λ s. s.actions) m.sections
 
 -- the intervals of a message, each with its section's article
-abbrev pub stretches : Message → List (ℕ × Interval)
-stretches m = flat_map (λ s. map (λ i. (s.article, i)) s.intervals) m.sections
+abbrev pub told_intervals : Message → List (ℕ × Interval)
+told_intervals m = flat_map (λ s. map (λ i. (s.article, i)) s.intervals) m.sections

@@ -7,7 +7,7 @@ use Rattle.message.specs.declared.reading.Stretch.{Stretch}
 use Rattle.message.specs.declared.records.Interval.{Interval}
 use Rattle.message.specs.declared.records.Record.{Record}
 use Rattle.message.specs.Format.{record_bytes}
-use Rattle.message.specs.Walks.{action_in, article_after, interval_in, records_in}
+use Rattle.message.specs.Walks.{article_after, its_action, its_interval, records_in}
 
 -- records one after another, the first at place at
 abbrev pub placed : ℕ → List Record → List Found
@@ -28,7 +28,7 @@ stretch_of at a (Some i) = Some (record { offset = at; article = a; interval = i
 -- the intervals among them, where article a is the one that the first is about
 abbrev pub stretches_among : ℕ → List Found → List Stretch
 stretches_among a [] = []
-stretches_among a (f ∷ fs) = cons_option (stretch_of f.offset a (interval_in f.«record»)) (stretches_among (article_after a f.«record») fs)
+stretches_among a (f ∷ fs) = cons_option (stretch_of f.offset a (its_interval f.«record»)) (stretches_among (article_after a f.«record») fs)
 
 abbrev pub stretches_in : List ℕ → List Stretch
 stretches_in bytes = stretches_among 0 (found_in bytes)
@@ -39,4 +39,4 @@ told s = (s.article, s.interval)
 
 -- the actions among them
 abbrev pub actions_among : List Found → List Action
-actions_among = filter_map (λ f. action_in f.«record»)
+actions_among = filter_map (λ f. its_action f.«record»)

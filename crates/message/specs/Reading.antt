@@ -17,7 +17,7 @@ use Rattle.message.specs.Faults.{fault_at}
 use Rattle.message.specs.Fields.{Fitting}
 use Rattle.message.specs.Format.{record_bytes}
 use Rattle.message.specs.Progress.{admitted, start}
-use Rattle.message.specs.Walks.{action_in}
+use Rattle.message.specs.Walks.{its_action}
 
 -- one step from place at, with the progress so far: a record that leads on, with the progress after it, or the end; or a fault
 abbrev pub Step : Type 0
@@ -73,7 +73,7 @@ abbrev pub reading : Meaning → Setup → List Record → Option Progress
 reading kind setup rs = fold (onward kind setup) (Some start) rs
 
 abbrev pub is_action : Record → Bool
-is_action r = is_some (action_in r)
+is_action r = is_some (its_action r)
 
 -- the first bytes are these records, each due and lawful after those before it
 pub record Begun (kind : Meaning) (setup : Setup) (bytes : List ℕ) (at : ℕ) (p : Progress) : Type 0 where

@@ -39,25 +39,25 @@ article_after a (RecordKinds.Section s) = s.article
 article_after a (RecordKinds.Interval _) = a
 article_after a (RecordKinds.Action _) = a
 
-abbrev pub interval_in : Record → Option Interval
-interval_in (RecordKinds.Header _) = None
-interval_in (RecordKinds.Section _) = None
-interval_in (RecordKinds.Interval i) = Some i
-interval_in (RecordKinds.Action _) = None
+abbrev pub its_interval : Record → Option Interval
+its_interval (RecordKinds.Header _) = None
+its_interval (RecordKinds.Section _) = None
+its_interval (RecordKinds.Interval i) = Some i
+its_interval (RecordKinds.Action _) = None
 
-abbrev pub action_in : Record → Option Action
-action_in (RecordKinds.Header _) = None
-action_in (RecordKinds.Section _) = None
-action_in (RecordKinds.Interval _) = None
-action_in (RecordKinds.Action x) = Some x
+abbrev pub its_action : Record → Option Action
+its_action (RecordKinds.Header _) = None
+its_action (RecordKinds.Section _) = None
+its_action (RecordKinds.Interval _) = None
+its_action (RecordKinds.Action x) = Some x
 
 -- who sent the message that begins with this record
-abbrev pub sender_in : Option Record → ℕ
-sender_in None = 0
-sender_in (Some (RecordKinds.Header h)) = h.sender
-sender_in (Some (RecordKinds.Section _)) = 0
-sender_in (Some (RecordKinds.Interval _)) = 0
-sender_in (Some (RecordKinds.Action _)) = 0
+abbrev pub its_sender : Option Record → ℕ
+its_sender None = 0
+its_sender (Some (RecordKinds.Header h)) = h.sender
+its_sender (Some (RecordKinds.Section _)) = 0
+its_sender (Some (RecordKinds.Interval _)) = 0
+its_sender (Some (RecordKinds.Action _)) = 0
 
 -- the actions among records, in their order
 abbrev pub actions_of : List Record → List Action
@@ -76,12 +76,12 @@ intervals_of a (RecordKinds.Interval i ∷ rs) = (a, i) ∷ intervals_of a rs
 intervals_of a (RecordKinds.Action _ ∷ rs) = intervals_of a rs
 
 -- where the first interval stands that passes a test, of records that begin at place at
-abbrev pub first_of : (ℕ → Interval → Bool) → ℕ → ℕ → List Record → Option ℕ
-first_of test at a [] = None
-first_of test at a (RecordKinds.Header h ∷ rs) = first_of test (at + 6) a rs
-first_of test at a (RecordKinds.Section s ∷ rs) = first_of test (at + 5) s.article rs
-first_of test at a (RecordKinds.Interval i ∷ rs) = cond (test a i) (Some at) (first_of test (at + 10) a rs)
-first_of test at a (RecordKinds.Action x ∷ rs) = first_of test (at + 16) a rs
+abbrev pub first_place : (ℕ → Interval → Bool) → ℕ → ℕ → List Record → Option ℕ
+first_place test at a [] = None
+first_place test at a (RecordKinds.Header h ∷ rs) = first_place test (at + 6) a rs
+first_place test at a (RecordKinds.Section s ∷ rs) = first_place test (at + 5) s.article rs
+first_place test at a (RecordKinds.Interval i ∷ rs) = cond (test a i) (Some at) (first_place test (at + 10) a rs)
+first_place test at a (RecordKinds.Action x ∷ rs) = first_place test (at + 16) a rs
 
 -- how many bytes the record takes, where there is one
 abbrev pub size_in : Option Record → ℕ

@@ -1,5 +1,5 @@
 ghost use Rattle.std.specs.Prelude.{◌≡◌, ◌+◌, ◌≤◌, length, drop};
-ghost use Rattle.message.specs.Walks.{action_in, article_after, interval_in, record_in, sender_in, size_in};
+ghost use Rattle.message.specs.Walks.{article_after, its_action, its_interval, its_sender, record_in, size_in};
 
 use crate::decodes::decode;
 use crate::reading::Due;
@@ -35,7 +35,7 @@ fn first_record(bytes: &[u8]) -> Option<Record>
 // Who sent the message; 0 where the bytes begin with no header. An `Option` would be unwrapped by its one
 // caller, which asks it of messages that have been checked.
 pub fn sender_of(bytes: &[u8]) -> u8
-    ensures { result ≡ sender_in (record_in bytes.now) }
+    ensures { result ≡ its_sender (record_in bytes.now) }
 {
     match record_at(bytes, 0) {
         Some(Record::Header(header)) => header.sender,
@@ -55,7 +55,7 @@ impl Record {
     }
 
     pub fn interval(&self) -> Option<Interval>
-        ensures { result ≡ interval_in self.now }
+        ensures { result ≡ its_interval self.now }
     {
         match *self {
             Record::Interval(interval) => Some(interval),
@@ -64,7 +64,7 @@ impl Record {
     }
 
     pub fn action(&self) -> Option<Action>
-        ensures { result ≡ action_in self.now }
+        ensures { result ≡ its_action self.now }
     {
         match *self {
             Record::Action(action) => Some(action),

@@ -10,10 +10,10 @@ use denote.Ref.{Bor}
 use Rattle.message.specs.declared.reading.Stretch.{Stretch}
 use Rattle.message.specs.declared.records.Interval.{Interval}
 use Rattle.message.specs.Found.{stretches_in}
-use Rattle.message.specs.Walks.{first_of, records_in}
+use Rattle.message.specs.Walks.{first_place, records_in}
 use Rattle.message.proofs.Yields.{first_in}
 
 -- the place of the first interval that passes a test, where the closure is that test
-pub first_passing : {F : Type 0} {g : Mut F (Bor Stretch × Unit {0}) Bool} (test : ℕ → Interval → Bool) (bytes : List ℕ) {from : List Stretch} (to : List Stretch) {f : F} (r : Option Stretch) {place : Option ℕ} → from ≡ stretches_in bytes → FindsItem (YieldsFirst (λ left. left)) g from f r to → ((s : Stretch) (b : Bool) (q : F) → CalledAt g f s b q → (q ≡ f) × (b ≡ test s.article s.interval)) → place ≡ option_map (λ s. s.offset) r → place ≡ first_of test 0 0 (records_in bytes)
+pub first_passing : {F : Type 0} {g : Mut F (Bor Stretch × Unit {0}) Bool} (test : ℕ → Interval → Bool) (bytes : List ℕ) {from : List Stretch} (to : List Stretch) {f : F} (r : Option Stretch) {place : Option ℕ} → from ≡ stretches_in bytes → FindsItem (YieldsFirst (λ left. left)) g from f r to → ((s : Stretch) (b : Bool) (q : F) → CalledAt g f s b q → (q ≡ f) × (b ≡ test s.article s.interval)) → place ≡ option_map (λ s. s.offset) r → place ≡ first_place test 0 0 (records_in bytes)
 first_passing test bytes {from} to {f} r {place} left ran same is =
     is ∙ first_in test bytes r (find_from_yields_List (λ s. test s.article s.interval) to f r ran (YieldsList-from_first (λ s. s) (λ left. left) (stretches_in bytes) left) same)

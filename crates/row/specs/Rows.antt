@@ -2,7 +2,7 @@
 use Rattle.std.specs.Prelude.{ℕ, List, map, ℤ, fold, slice_index_or, slice_set}
 use Rattle.action.specs.declared.orders.Action.{Action}
 use Rattle.message.specs.declared.records.Interval.{Interval}
-use Rattle.message.specs.Walks.{intervals_of, record_in, records_in, sender_in}
+use Rattle.message.specs.Walks.{intervals_of, record_in, records_in, its_sender}
 use Rattle.row.specs.declared.rows.Row.{Row}
 use Rattle.row.specs.Entries.{no_row, raised}
 use Rattle.row.specs.Passes.{raised_by}
@@ -52,4 +52,4 @@ raised_rows own sender = on_article_row (λ h. h.0) (raised_row_by own sender)
 -- the same of all intervals of a message's bytes
 abbrev pub raised_by_message : ℕ → List ℕ → List Row → List Row
 raised_by_message own bytes rows =
-    fold (raised_rows own (sender_in (record_in bytes))) rows (intervals_of 0 (records_in bytes))
+    fold (raised_rows own (its_sender (record_in bytes))) rows (intervals_of 0 (records_in bytes))

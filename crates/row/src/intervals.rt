@@ -1,6 +1,6 @@
 // What a message says of the times that a table has reached, judged by its rows.
 ghost use Rattle.std.specs.Prelude.{◌≡◌};
-ghost use Rattle.message.specs.Walks.{first_of, records_in};
+ghost use Rattle.message.specs.Walks.{first_place, records_in};
 ghost use Rattle.row.specs.Passes.{is_ahead_in, is_behind_in};
 
 use crate::ledgers::Ledger;
@@ -26,7 +26,7 @@ impl Ledger {
 
     // Where the message's first interval stands that begins above what the table has reached.
     pub fn first_behind(&self, bytes: &[u8]) -> Option<usize>
-        ensures { result ≡ first_of (is_behind_in self.now.rows self.now.setup.own) 0 0 (records_in bytes.now) }
+        ensures { result ≡ first_place (is_behind_in self.now.rows self.now.setup.own) 0 0 (records_in bytes.now) }
     {
         Intervals::new(bytes)
             .find(|found| self.is_behind(found))
@@ -37,7 +37,7 @@ impl Ledger {
     // for this and the one before would say in its contract what the test answers, which is longer than the
     // chain.
     pub fn first_ahead(&self, bytes: &[u8]) -> Option<usize>
-        ensures { result ≡ first_of (is_ahead_in self.now.rows self.now.setup.own) 0 0 (records_in bytes.now) }
+        ensures { result ≡ first_place (is_ahead_in self.now.rows self.now.setup.own) 0 0 (records_in bytes.now) }
     {
         Intervals::new(bytes)
             .find(|found| self.is_ahead(found))

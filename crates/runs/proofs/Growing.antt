@@ -9,8 +9,8 @@ use Rattle.action.proofs.Apartness.{distinct_append}
 use Rattle.action.proofs.Members.{all_from_has, has_append_cases}
 use Rattle.kind.specs.Meaning.{Meaning}
 use Rattle.message.specs.declared.records.Interval.{Interval}
-use Rattle.message.specs.Format.{Message, carried, stretches}
-use Rattle.message.proofs.Carried.{stretches_lawful}
+use Rattle.message.specs.Format.{Message, carried, told_intervals}
+use Rattle.message.proofs.Carried.{told_intervals_lawful}
 use Rattle.table.specs.View.{View, entry}
 use Rattle.runs.specs.Books.{Book, book, greatest, greatest_of}
 use Rattle.runs.specs.Events.{Call, Event, wrote}
@@ -128,25 +128,25 @@ module _ (kind : Meaning) (group : Group) (s : ℕ) (of_group : s < group.sites)
     abbrev Listed : ℕ × Interval → Type 0
     Listed h = (h.0 < group.articles) × (h.1.site < group.sites)
 
-    listed : AllByRecursion Listed (stretches m)
+    listed : AllByRecursion Listed (told_intervals m)
     listed =
         let setup = group.setup s in
         let of = group.agrees s of_group in
-        All-weaker _ Listed (λ h k. (subst (λ (n : ℕ). h.0 < n) of.articles_are k.0, subst (λ (n : ℕ). h.1.site < n) of.sites_are k.1.of_group)) (stretches m) (stretches_lawful kind setup m (sent.lawful s of_group))
+        All-weaker _ Listed (λ h k. (subst (λ (n : ℕ). h.0 < n) of.articles_are k.0, subst (λ (n : ℕ). h.1.site < n) of.sites_are k.1.of_group)) (told_intervals m) (told_intervals_lawful kind setup m (sent.lawful s of_group))
 
     sender_lt : m.sender < group.sites
     sender_lt = subst (λ (n : ℕ). m.sender < n) (group.agrees s of_group).sites_are (sent.lawful s of_group).sent
 
     still_true : Truthful b m → Truthful after m
     still_true t = record {
-      sender_has = All-weaker (λ h. h.1.to ≤ b.reach m.sender h.0 h.1.site) (λ h. h.1.to ≤ after.reach m.sender h.0 h.1.site) (λ h k. omega (arith, k, reach_grows m.sender h.0 h.1.site)) (stretches m) t.sender_has;
-      whole = all_from_has _ (stretches m) (λ h k x has on_it of_it after_from up_to.
+      sender_has = All-weaker (λ h. h.1.to ≤ b.reach m.sender h.0 h.1.site) (λ h. h.1.to ≤ after.reach m.sender h.0 h.1.site) (λ h k. omega (arith, k, reach_grows m.sender h.0 h.1.site)) (told_intervals m) t.sender_has;
+      whole = all_from_has _ (told_intervals m) (λ h k x has on_it of_it after_from up_to.
           ⊎_elim
-          (λ old. all-has _ (stretches m) h t.whole k x old on_it of_it after_from up_to)
+          (λ old. all-has _ (told_intervals m) h t.whole k x old on_it of_it after_from up_to)
           (λ n.
           let mine : h.1.site ≡ s = sym of_it ∙ n.own in
-          let within : h.1.to ≤ b.reach m.sender h.0 s = subst (λ (q : ℕ). h.1.to ≤ b.reach m.sender h.0 q) mine (all-has (λ h. h.1.to ≤ b.reach m.sender h.0 h.1.site) (stretches m) h t.sender_has k) in
-          absurd (beyond_old x n m.sender h.0 h.1.to sender_lt (all-has Listed (stretches m) h listed k).0 within up_to))
+          let within : h.1.to ≤ b.reach m.sender h.0 s = subst (λ (q : ℕ). h.1.to ≤ b.reach m.sender h.0 q) mine (all-has (λ h. h.1.to ≤ b.reach m.sender h.0 h.1.site) (told_intervals m) h t.sender_has k) in
+          absurd (beyond_old x n m.sender h.0 h.1.to sender_lt (all-has Listed (told_intervals m) h listed k).0 within up_to))
           (now_committed x has));
       sure = All-weaker (Has b.committed) (Has after.committed) was_committed (carried m) t.sure;
     }
@@ -164,7 +164,7 @@ still_everywhere group v w kept a = All-weaker (Everywhere group v a) (Everywher
 
 module _ (kind : Meaning) (group : Group) (s : ℕ) (v w : View) (kept : (a z q : ℕ) → entry v a z q ≤ entry w a z q) where
   credits_still : (z : ℕ) (m : Message) → Credits v z m → Credits w z m
-  credits_still z m c = All-weaker (λ h. h.1.to ≤ entry v h.0 z h.1.site) (λ h. h.1.to ≤ entry w h.0 z h.1.site) (λ h k. omega (arith, k, kept h.0 z h.1.site)) (stretches m) c
+  credits_still z m c = All-weaker (λ h. h.1.to ≤ entry v h.0 z h.1.site) (λ h. h.1.to ≤ entry w h.0 z h.1.site) (λ h k. omega (arith, k, kept h.0 z h.1.site)) (told_intervals m) c
 
   pub absorbed_still : (call : Call) → Absorbed kind group s v call → Absorbed kind group s w call
   absorbed_still (Opens r) h = tt

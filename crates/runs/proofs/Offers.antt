@@ -8,7 +8,7 @@ use Rattle.action.proofs.Members.{all_from_has, has_append_cases, has_kept_by, h
 use Rattle.kind.specs.Meaning.{Meaning}
 use Rattle.kind.specs.Working.{on}
 use Rattle.message.specs.declared.records.Interval.{Interval}
-use Rattle.message.specs.Format.{Message, carried, stretches}
+use Rattle.message.specs.Format.{Message, carried, told_intervals}
 use Rattle.table.specs.declared.faults.TableFault.{TableFault}
 use Rattle.table.specs.Offers.{is_offered, offer_bytes, offer_interval, offer_message}
 use Rattle.table.specs.View.{View, entry}
@@ -32,7 +32,7 @@ module _ (kind : Meaning) (group : Group) (b : Book) (s : ℕ) (of_group : s < g
   own = v.setup.own
 
   -- what holds of each interval of the offer
-  each_interval : (P : ℕ × Interval → Type 0) → ((q : ℕ) → q < group.sites → P (a, offer_interval v p a q)) → AllByRecursion P (stretches m)
+  each_interval : (P : ℕ × Interval → Type 0) → ((q : ℕ) → q < group.sites → P (a, offer_interval v p a q)) → AllByRecursion P (told_intervals m)
   each_interval P each =
       All-append P (map (λ i. (a, i)) (map (offer_interval v p a) (range_with_len 0 v.setup.sites))) []
       (All-map P (λ i. (a, i)) (map (offer_interval v p a) (range_with_len 0 v.setup.sites)) (All-map (λ i. P (a, i)) (offer_interval v p a) (range_with_len 0 v.setup.sites) (All-weaker (λ q. q < v.setup.sites) (λ q. P (a, offer_interval v p a q)) (λ q lt. each q (omega (arith, lt, sites_are kind group b s of_group v site))) (range_with_len 0 v.setup.sites) (below_counting v.setup.sites))))

@@ -10,7 +10,7 @@ use Rattle.action.proofs.Members.{all_from_has, has_kept_by_parts, kept_by_none}
 use Rattle.kind.specs.Meaning.{Meaning}
 use Rattle.kind.specs.Working.{on, working}
 use Rattle.message.specs.declared.records.Interval.{Interval}
-use Rattle.message.specs.Format.{Message, carried, stretches}
+use Rattle.message.specs.Format.{Message, carried, told_intervals}
 use Rattle.message.specs.Lawful.{Carries, LawfulMessage}
 use Rattle.message.proofs.Carried.{carried_within}
 use Rattle.message.proofs.Verdicts.{messages_unique}
@@ -40,13 +40,13 @@ module _ (kind : Meaning) (v : View) (sound : Sound kind v) (m : Message) (lawfu
   abbrev own : ℕ
   own = v.setup.own
 
-  reached : (z : ℕ) → Credits v z m → (a : ℕ) (i : Interval) → Has (stretches m) (a, i) → i.to ≤ entry v a z i.site
-  reached z credits a i h = all-has (λ (h : ℕ × Interval). h.1.to ≤ entry v h.0 z h.1.site) (stretches m) (a, i) credits h
+  reached : (z : ℕ) → Credits v z m → (a : ℕ) (i : Interval) → Has (told_intervals m) (a, i) → i.to ≤ entry v a z i.site
+  reached z credits a i h = all-has (λ (h : ℕ × Interval). h.1.to ≤ entry v h.0 z h.1.site) (told_intervals m) (a, i) credits h
 
   -- each action that it carries is there
   pub nothing_new : news v m ≡ []
   nothing_new =
-      kept_by_none (is_new v) (carried m) (All-weaker (λ x. (i : Interval) × Has (stretches m) (x.article, i) × Carries i x) (λ x. is_new v x ≡ false) (λ x h.
+      kept_by_none (is_new v) (carried m) (All-weaker (λ x. (i : Interval) × Has (told_intervals m) (x.article, i) × Carries i x) (λ x. is_new v x ≡ false) (λ x h.
       let i : Interval = h.0 in
       let up_to : x.time ≤ entry v x.article own i.site = omega (arith, h.2.2, reached own here x.article i h.1) in
       le-ltb (entry v x.article own x.coordinator) x.time (subst (λ (c : ℕ). x.time ≤ entry v x.article own c) h.2.0 up_to)) (carried m) (carried_within kind v.setup m lawful))
@@ -54,17 +54,17 @@ module _ (kind : Meaning) (v : View) (sound : Sound kind v) (m : Message) (lawfu
   same_history : taken_history v m ≡ v.history
   same_history = ap (fold placed v.history) nothing_new
 
-  same_clock : fold (λ t (h : ℕ × Interval). max t h.1.to) v.clock (stretches m) ≡ v.clock
+  same_clock : fold (λ t (h : ℕ × Interval). max t h.1.to) v.clock (told_intervals m) ≡ v.clock
   same_clock =
       let to : ℕ × Interval → ℕ = λ h. h.1.to in
-      let within = All-weaker (λ (h : ℕ × Interval). h.1.to ≤ entry v h.0 own h.1.site) (λ (h : ℕ × Interval). h.1.to ≤ v.clock) (λ h k. omega (arith, k, sound.clocked h.0 h.1.site)) (stretches m) here in
-      omega (arith, greatest_le to v.clock v.clock (stretches m) (omega arith) within, greatest_from to v.clock (stretches m))
+      let within = All-weaker (λ (h : ℕ × Interval). h.1.to ≤ entry v h.0 own h.1.site) (λ (h : ℕ × Interval). h.1.to ≤ v.clock) (λ h k. omega (arith, k, sound.clocked h.0 h.1.site)) (told_intervals m) here in
+      omega (arith, greatest_le to v.clock v.clock (told_intervals m) (omega arith) within, greatest_from to v.clock (told_intervals m))
 
-  same_known : (a : ℕ) → fold (raised_by own m.sender) (row v a).known (filter (λ h. eqb h.0 a) (stretches m)) ≡ (row v a).known
+  same_known : (a : ℕ) → fold (raised_by own m.sender) (row v a).known (filter (λ h. eqb h.0 a) (told_intervals m)) ≡ (row v a).known
   same_known a =
-      let about = filter (λ (h : ℕ × Interval). eqb h.0 a) (stretches m) in
+      let about = filter (λ (h : ℕ × Interval). eqb h.0 a) (told_intervals m) in
       told_again own m.sender (row v a).known about (all_from_has (λ h. (h.1.to ≤ entry v a own h.1.site) × (h.1.to ≤ entry v a m.sender h.1.site)) about (λ h k.
-      let parts = has_kept_by_parts (λ (h : ℕ × Interval). eqb h.0 a) (stretches m) h k in
+      let parts = has_kept_by_parts (λ (h : ℕ × Interval). eqb h.0 a) (told_intervals m) h k in
       let is : h.0 ≡ a = eqb-true h.0 a parts.1 in
       (subst (λ (b : ℕ). h.1.to ≤ entry v b own h.1.site) is (reached own here h.0 h.1 parts.0), subst (λ (b : ℕ). h.1.to ≤ entry v b m.sender h.1.site) is (reached m.sender there h.0 h.1 parts.0))))
 

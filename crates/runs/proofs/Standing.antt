@@ -5,7 +5,7 @@ use Rattle.action.specs.declared.orders.Action.{Action}
 use Rattle.action.specs.Order.{Ascending, Distinct}
 use Rattle.kind.specs.Meaning.{Meaning}
 use Rattle.kind.specs.Working.{on, working}
-use Rattle.message.specs.Format.{Message, carried, format, stretches}
+use Rattle.message.specs.Format.{Message, carried, format, told_intervals}
 use Rattle.message.specs.Lawful.{LawfulMessage}
 use Rattle.table.specs.Sound.{Sound}
 use Rattle.table.specs.View.{View, entry, row}
@@ -68,8 +68,8 @@ pub record Sent (kind : Meaning) (group : Group) (bytes : List ℕ) (m : Message
 
 -- its sender has what its intervals say, and it carries just the committed actions in them
 pub record Truthful (b : Book) (m : Message) : Type 0 where
-  pub sender_has : AllByRecursion (λ h. h.1.to ≤ b.reach m.sender h.0 h.1.site) (stretches m)
-  pub whole : AllByRecursion (λ h. (x : Action) → Has b.committed x → x.article ≡ h.0 → x.coordinator ≡ h.1.site → h.1.from < x.time → x.time ≤ h.1.to → Has (carried m) x) (stretches m)
+  pub sender_has : AllByRecursion (λ h. h.1.to ≤ b.reach m.sender h.0 h.1.site) (told_intervals m)
+  pub whole : AllByRecursion (λ h. (x : Action) → Has b.committed x → x.article ≡ h.0 → x.coordinator ≡ h.1.site → h.1.from < x.time → x.time ≤ h.1.to → Has (carried m) x) (told_intervals m)
   pub sure : AllByRecursion (Has b.committed) (carried m)
 
 -- what an event wrote: nothing, or a true message
@@ -78,7 +78,7 @@ Told kind group b bytes = (bytes ≡ []) ⊎ ((m : Message) × Sent kind group b
 
 -- this table knows that site z has all that the message's intervals say
 abbrev pub Credits : View → ℕ → Message → Type 0
-Credits v z m = AllByRecursion (λ h. h.1.to ≤ entry v h.0 z h.1.site) (stretches m)
+Credits v z m = AllByRecursion (λ h. h.1.to ≤ entry v h.0 z h.1.site) (told_intervals m)
 
 -- what a site has taken, it knows to be its own and the sender's
 abbrev pub Absorbed : Meaning → Group → ℕ → View → Call → Type 0

@@ -15,10 +15,10 @@ use Rattle.action.proofs.Sequence.{ascending_kept, ascending_parts, ascending_to
 use Rattle.kind.specs.Meaning.{Meaning}
 use Rattle.kind.specs.Working.{on}
 use Rattle.message.specs.declared.records.Interval.{Interval}
-use Rattle.message.specs.Format.{Message, carried, format, records, stretches}
+use Rattle.message.specs.Format.{Message, carried, format, records, told_intervals}
 use Rattle.message.specs.Lawful.{LawfulInterval, LawfulMessage}
 use Rattle.message.specs.Walks.{intervals_of}
-use Rattle.message.proofs.Carried.{stretches_lawful, stretches_of}
+use Rattle.message.proofs.Carried.{told_intervals_lawful, told_intervals_of}
 use Rattle.message.proofs.Sameness.{lawful_fits}
 use Rattle.message.proofs.Verdicts.{messages_unique}
 use Rattle.message.proofs.Walking.{records_joined}
@@ -41,7 +41,7 @@ use Rattle.runs.proofs.Sites.{articles_are, own_entry, own_is, sites_are}
 use Rattle.runs.proofs.Standing.{Account, Credits, Everywhere, Gathered, Reached, Recorded, Sent, Site, Standing, Told, Truthful}
 
 -- the site takes this message, which is true, and reaches the times that its intervals say
-module _ (kind : Meaning) (group : Group) (s : ℕ) (b : Book) (v : View) (m : Message) (times : ℕ → ℕ → ℕ) (of_group : s < group.sites) (site : Site kind group b s v) (lawful : LawfulMessage kind v.setup m) (truthful : Truthful b m) (times_are : (a q : ℕ) → times a q ≡ highest a q (stretches m)) where
+module _ (kind : Meaning) (group : Group) (s : ℕ) (b : Book) (v : View) (m : Message) (times : ℕ → ℕ → ℕ) (of_group : s < group.sites) (site : Site kind group b s v) (lawful : LawfulMessage kind v.setup m) (truthful : Truthful b m) (times_are : (a q : ℕ) → times a q ≡ highest a q (told_intervals m)) where
   abbrev after : Book
   after = reaching s times b
 
@@ -53,7 +53,7 @@ module _ (kind : Meaning) (group : Group) (s : ℕ) (b : Book) (v : View) (m : M
 
   -- how far the message goes
   abbrev far : ℕ → ℕ → ℕ
-  far a q = highest a q (stretches m)
+  far a q = highest a q (told_intervals m)
 
   own_s : own ≡ s
   own_s = own_is kind group b s of_group v site
@@ -81,8 +81,8 @@ module _ (kind : Meaning) (group : Group) (s : ℕ) (b : Book) (v : View) (m : M
   -- the sender has all of it
   far_le : (a q : ℕ) → far a q ≤ b.reach m.sender a q
   far_le a q =
-      highest_le a q (stretches m) (b.reach m.sender a q) (All-weaker (λ h. h.1.to ≤ b.reach m.sender h.0 h.1.site) (λ h. (h.0 ≡ a) → (h.1.site ≡ q) → h.1.to ≤ b.reach m.sender a q) (λ h k on_it of_it.
-      subst (λ (n : ℕ). h.1.to ≤ b.reach m.sender a n) of_it (subst (λ (n : ℕ). h.1.to ≤ b.reach m.sender n h.1.site) on_it k)) (stretches m) truthful.sender_has)
+      highest_le a q (told_intervals m) (b.reach m.sender a q) (All-weaker (λ h. h.1.to ≤ b.reach m.sender h.0 h.1.site) (λ h. (h.0 ≡ a) → (h.1.site ≡ q) → h.1.to ≤ b.reach m.sender a q) (λ h k on_it of_it.
+      subst (λ (n : ℕ). h.1.to ≤ b.reach m.sender a n) of_it (subst (λ (n : ℕ). h.1.to ≤ b.reach m.sender n h.1.site) on_it k)) (told_intervals m) truthful.sender_has)
 
   pub take_grows : Account group b → Grown group s b after
   take_grows account = record {
@@ -102,24 +102,24 @@ module _ (kind : Meaning) (group : Group) (s : ℕ) (b : Book) (v : View) (m : M
   vector a q al ql = omega (arith, told a s q (inl (sym own_s)), reach_own a q, site.vector a q al ql)
 
   -- an interval of the message is of the group
-  interval_of_group : (h : ℕ × Interval) → Has (stretches m) h → (h.0 < group.articles) × (h.1.site < group.sites)
+  interval_of_group : (h : ℕ × Interval) → Has (told_intervals m) h → (h.0 < group.articles) × (h.1.site < group.sites)
   interval_of_group h k =
-      let law = all-has (λ h. (h.0 < v.setup.articles) × LawfulInterval v.setup h.1) (stretches m) h (stretches_lawful kind v.setup m lawful) k in
+      let law = all-has (λ h. (h.0 < v.setup.articles) × LawfulInterval v.setup h.1) (told_intervals m) h (told_intervals_lawful kind v.setup m lawful) k in
       (omega (arith, law.0, articles_are kind group b s of_group v site), omega (arith, law.1.of_group, sites))
 
   clock_le : w.clock ≤ greatest group after s
   clock_le =
-      Most.greatest_le (λ (h : ℕ × Interval). h.1.to) (greatest group after s) v.clock (stretches m)
+      Most.greatest_le (λ (h : ℕ × Interval). h.1.to) (greatest group after s) v.clock (told_intervals m)
       (omega (arith, site.clock_is, greatest_le group b s (greatest group after s) (λ a q al ql. omega (arith, greatest_ge group after s a q al ql, reach_grows s a q))))
-      (all_from_has (λ h. h.1.to ≤ greatest group after s) (stretches m) (λ h k.
+      (all_from_has (λ h. h.1.to ≤ greatest group after s) (told_intervals m) (λ h k.
       let of = interval_of_group h k in
-      omega (arith, highest_ge h.0 h.1 (stretches m) k, reach_own h.0 h.1.site, greatest_ge group after s h.0 h.1.site of.0 of.1)))
+      omega (arith, highest_ge h.0 h.1 (told_intervals m) k, reach_own h.0 h.1.site, greatest_ge group after s h.0 h.1.site of.0 of.1)))
 
   clock_ge : greatest group after s ≤ w.clock
   clock_ge =
       greatest_le group after s w.clock (λ a q al ql.
-      let over : far a q ≤ w.clock = highest_le a q (stretches m) w.clock (All-weaker (λ h. h.1.to ≤ w.clock) (λ h. (h.0 ≡ a) → (h.1.site ≡ q) → h.1.to ≤ w.clock) (λ h k _ _. k) (stretches m) (Most.greatest_ge (λ (h : ℕ × Interval). h.1.to) v.clock (stretches m))) in
-      omega (arith, over, reach_own a q, greatest_ge group b s a q al ql, site.clock_is, Most.greatest_from (λ (h : ℕ × Interval). h.1.to) v.clock (stretches m)))
+      let over : far a q ≤ w.clock = highest_le a q (told_intervals m) w.clock (All-weaker (λ h. h.1.to ≤ w.clock) (λ h. (h.0 ≡ a) → (h.1.site ≡ q) → h.1.to ≤ w.clock) (λ h k _ _. k) (told_intervals m) (Most.greatest_ge (λ (h : ℕ × Interval). h.1.to) v.clock (told_intervals m))) in
+      omega (arith, over, reach_own a q, greatest_ge group b s a q al ql, site.clock_is, Most.greatest_from (λ (h : ℕ × Interval). h.1.to) v.clock (told_intervals m)))
 
   believed : (a z q : ℕ) → a < group.articles → z < group.sites → q < group.sites → entry w a z q ≤ after.reach z a q
   believed a z q al zl ql =
@@ -134,7 +134,7 @@ module _ (kind : Meaning) (group : Group) (s : ℕ) (b : Book) (v : View) (m : M
 
   -- what its intervals say is known of the site and of the sender
   pub take_credits : (z : ℕ) → (z ≡ v.setup.own) ⊎ (z ≡ m.sender) → Credits w z m
-  take_credits z is = all_from_has (λ h. h.1.to ≤ entry w h.0 z h.1.site) (stretches m) (λ h k. taken_reaches kind v m site.sound lawful h.0 z h.1 is k)
+  take_credits z is = all_from_has (λ h. h.1.to ≤ entry w h.0 z h.1.site) (told_intervals m) (λ h k. taken_reaches kind v m site.sound lawful h.0 z h.1 is k)
 
   -- WHAT IT HAS OF AN ARTICLE
 
@@ -211,12 +211,12 @@ module _ (kind : Meaning) (group : Group) (s : ℕ) (b : Book) (v : View) (m : M
 
         new : b.reach s a q < x.time → Has (g.archived ++ on a w.history) x
         new lt =
-            let up = highest_above a q (stretches m) (x.time - 1) (omega (arith, r.2, reach_own a q)) in
+            let up = highest_above a q (told_intervals m) (x.time - 1) (omega (arith, r.2, reach_own a q)) in
             let i = up.0 in
-            let behind = all-has (λ h. h.1.from ≤ entry v h.0 own h.1.site) (stretches m) (a, i) (begun_within v m passes) up.1 in
+            let behind = all-has (λ h. h.1.from ≤ entry v h.0 own h.1.site) (told_intervals m) (a, i) (begun_within v m passes) up.1 in
             let had : entry v a own i.site ≡ b.reach s a q = ap (entry v a own) up.2 ∙ own_entry kind group b s of_group v site a q al ql in
             let from : i.from < x.time = omega (arith, behind, had) in
-            let is_carried = all-has (λ h. (x : Action) → Has b.committed x → x.article ≡ h.0 → x.coordinator ≡ h.1.site → h.1.from < x.time → x.time ≤ h.1.to → Has (carried m) x) (stretches m) (a, i) truthful.whole up.1 x r.0 r.1 (sym up.2) from (omega (arith, up.3)) in
+            let is_carried = all-has (λ h. (x : Action) → Has b.committed x → x.article ≡ h.0 → x.coordinator ≡ h.1.site → h.1.from < x.time → x.time ≤ h.1.to → Has (carried m) x) (told_intervals m) (a, i) truthful.whole up.1 x r.0 r.1 (sym up.2) from (omega (arith, up.3)) in
             let newer : entry v x.article own q < x.time = subst (λ (c : ℕ). entry v c own q < x.time) (sym r.1) (omega (arith, own_entry kind group b s of_group v site a q al ql)) in
             arrives x (inr (has_kept_by (is_new v) (carried m) x is_carried (lt-ltb (entry v x.article own q) x.time newer))) r.1
 
@@ -245,9 +245,9 @@ module _ (kind : Meaning) (group : Group) (s : ℕ) (b : Book) (v : View) (m : M
 -- THE LINE
 
 -- what a lawful message says of times, read from its bytes
-times_read : (kind : Meaning) (small : kind.number ≤ 255) (setup : Setup) (m : Message) → LawfulMessage kind setup m → (bytes : List ℕ) → bytes ≡ format m → (a q : ℕ) → taken_times bytes a q ≡ highest a q (stretches m)
+times_read : (kind : Meaning) (small : kind.number ≤ 255) (setup : Setup) (m : Message) → LawfulMessage kind setup m → (bytes : List ℕ) → bytes ≡ format m → (a q : ℕ) → taken_times bytes a q ≡ highest a q (told_intervals m)
 times_read kind small setup m lawful bytes is a q =
-    ap (λ bs. taken_times bs a q) is ∙ ap (λ rs. highest a q (intervals_of 0 rs)) (records_joined (records m) (lawful_fits kind setup small m lawful)) ∙ ap (highest a q) (stretches_of 0 m)
+    ap (λ bs. taken_times bs a q) is ∙ ap (λ rs. highest a q (intervals_of 0 rs)) (records_joined (records m) (lawful_fits kind setup small m lawful)) ∙ ap (highest a q) (told_intervals_of 0 m)
 
 module _ (kind : Meaning) (step_fits : (f : ℤ) (o : ℕ) (a : ℤ) → SFits w64 f → SFits w64 (kind.steps f o a)) (commute : (f : ℤ) (o : ℕ) (a : ℤ) (p : ℕ) (b : ℤ) → SFits w64 f → kind.commutes ≡ true → kind.knows o a ≡ true → kind.knows p b ≡ true → kind.steps (kind.steps f o a) p b ≡ kind.steps (kind.steps f p b) o a) (small : kind.number ≤ 255) where
   module _ (group : Group) (before : List Event) (s : ℕ) (old views : ℕ → View) (st : Standing kind group before old) where

@@ -8,7 +8,7 @@ use Rattle.action.proofs.Members.{all_from_has, has_append_cases, has_kept_by, h
 use Rattle.kind.specs.Meaning.{Meaning}
 use Rattle.kind.specs.Working.{on}
 use Rattle.message.specs.declared.records.Interval.{Interval}
-use Rattle.message.specs.Format.{Message, Section, carried, format, stretches}
+use Rattle.message.specs.Format.{Message, Section, carried, format, told_intervals}
 use Rattle.message.proofs.Carried.{all_joined, has_joined, has_map}
 use Rattle.table.specs.declared.faults.TableFault.{TableFault}
 use Rattle.table.specs.declared.tickets.Ticket.{Ticket}
@@ -48,7 +48,7 @@ module _ (kind : Meaning) (group : Group) (b : Book) (s : ℕ) (of_group : s < g
   each_section : (P : Section → Type 0) → ((a : ℕ) → Has (written_articles v) a → P (transaction_section v a)) → (c : Section) → Has m.sections c → P c
   each_section P each c h = all-has P m.sections c (All-map P (transaction_section v) (written_articles v) (all_from_has (λ a. P (transaction_section v a)) (written_articles v) each)) h
 
-  each_interval : (P : ℕ × Interval → Type 0) → ((a : ℕ) → Has (written_articles v) a → P (a, interval a)) → AllByRecursion P (stretches m)
+  each_interval : (P : ℕ × Interval → Type 0) → ((a : ℕ) → Has (written_articles v) a → P (a, interval a)) → AllByRecursion P (told_intervals m)
   each_interval P each =
       all_joined (λ c. map (λ i. (c.article, i)) c.intervals) P m.sections (each_section (λ c. AllByRecursion P (map (λ i. (c.article, i)) c.intervals)) (λ a h. (each a h, tt)))
 

@@ -4,9 +4,9 @@ use Rattle.action.specs.Order.{placed}
 use Rattle.kind.specs.Meaning.{Meaning}
 use Rattle.kind.specs.Working.{on, working}
 use Rattle.message.specs.declared.records.Interval.{Interval}
-use Rattle.message.specs.Format.{Message, records, stretches}
-use Rattle.message.specs.Walks.{actions_of, intervals_of, record_in, records_in, sender_in}
-use Rattle.message.proofs.Carried.{carried_of, stretches_of}
+use Rattle.message.specs.Format.{Message, records, told_intervals}
+use Rattle.message.specs.Walks.{actions_of, intervals_of, record_in, records_in, its_sender}
+use Rattle.message.proofs.Carried.{carried_of, told_intervals_of}
 use Rattle.message.proofs.Walking.{record_begins}
 use Rattle.row.specs.declared.rows.Row.{Row}
 use Rattle.row.specs.Rows.{raised_row_by, raised_rows, reworked_rows, stepped_rows}
@@ -20,11 +20,11 @@ use Rattle.table.specs.View.{View}
 
 -- what the passes read of a message's bytes is the message's
 module _ (m : Message) (bytes : List ℕ) (is : records_in bytes ≡ records m) where
-  pub intervals_in : intervals_of 0 (records_in bytes) ≡ stretches m
-  intervals_in = ap (intervals_of 0) is ∙ stretches_of 0 m
+  pub intervals_in : intervals_of 0 (records_in bytes) ≡ told_intervals m
+  intervals_in = ap (intervals_of 0) is ∙ told_intervals_of 0 m
 
-  pub sender_is : sender_in (record_in bytes) ≡ m.sender
-  sender_is = ap sender_in (record_begins bytes _ _ is)
+  pub sender_is : its_sender (record_in bytes) ≡ m.sender
+  sender_is = ap its_sender (record_begins bytes _ _ is)
 
 pub new_in : (v : View) (m : Message) (bytes : List ℕ) → records_in bytes ≡ records m → new_actions v.rows v.setup.own bytes ≡ news v m
 new_in v m bytes is = ap (λ rs. filter (is_new v) (actions_of rs)) is ∙ ap (filter (is_new v)) (carried_of m)
@@ -36,7 +36,7 @@ module _ (kind : Meaning) (v : View) (m : Message) where
   own = v.setup.own
 
   abbrev hs : List (ℕ × Interval)
-  hs = stretches m
+  hs = told_intervals m
 
   abbrev told : List Row → List Row
   told rows = fold (raised_rows own m.sender) rows hs

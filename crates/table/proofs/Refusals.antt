@@ -6,7 +6,7 @@ use Rattle.action.specs.Lawful.{by_history, by_table, unless}
 use Rattle.kind.specs.Meaning.{Meaning}
 use Rattle.message.specs.Format.{Message, format, records}
 use Rattle.message.specs.Lawful.{LawfulMessage}
-use Rattle.message.specs.Walks.{actions_of, first_of, records_in}
+use Rattle.message.specs.Walks.{actions_of, first_place, records_in}
 use Rattle.message.proofs.Carried.{carried_of}
 use Rattle.message.proofs.Walking.{lawful_records}
 use Rattle.row.specs.Passes.{new_actions}
@@ -21,17 +21,17 @@ module _ (v : View) (m : Message) where
   abbrev full : Bool → Option Refusal
   full fits = unless fits (by_history 16 v.capacity) None
 
-  pub refused_behind : (place : ℕ) → Some place ≡ first_of (is_behind v) 0 0 (records m) → take_refusal v m ≡ Some (by_table 13 place)
-  refused_behind place found = ap (λ o. unless_found o 13 (unless_found (first_of (is_ahead v) 0 0 (records m)) 14 (full (leb needed v.capacity)))) (sym found)
+  pub refused_behind : (place : ℕ) → Some place ≡ first_place (is_behind v) 0 0 (records m) → take_refusal v m ≡ Some (by_table 13 place)
+  refused_behind place found = ap (λ o. unless_found o 13 (unless_found (first_place (is_ahead v) 0 0 (records m)) 14 (full (leb needed v.capacity)))) (sym found)
 
-  module _ (not_behind : None ≡ first_of (is_behind v) 0 0 (records m)) where
-    past_behind : take_refusal v m ≡ unless_found (first_of (is_ahead v) 0 0 (records m)) 14 (full (leb needed v.capacity))
-    past_behind = ap (λ o. unless_found o 13 (unless_found (first_of (is_ahead v) 0 0 (records m)) 14 (full (leb needed v.capacity)))) (sym not_behind)
+  module _ (not_behind : None ≡ first_place (is_behind v) 0 0 (records m)) where
+    past_behind : take_refusal v m ≡ unless_found (first_place (is_ahead v) 0 0 (records m)) 14 (full (leb needed v.capacity))
+    past_behind = ap (λ o. unless_found o 13 (unless_found (first_place (is_ahead v) 0 0 (records m)) 14 (full (leb needed v.capacity)))) (sym not_behind)
 
-    pub refused_ahead : (place : ℕ) → Some place ≡ first_of (is_ahead v) 0 0 (records m) → take_refusal v m ≡ Some (by_table 14 place)
+    pub refused_ahead : (place : ℕ) → Some place ≡ first_place (is_ahead v) 0 0 (records m) → take_refusal v m ≡ Some (by_table 14 place)
     refused_ahead place found = past_behind ∙ ap (λ o. unless_found o 14 (full (leb needed v.capacity))) (sym found)
 
-    module _ (not_ahead : None ≡ first_of (is_ahead v) 0 0 (records m)) where
+    module _ (not_ahead : None ≡ first_place (is_ahead v) 0 0 (records m)) where
       past_ahead : take_refusal v m ≡ full (leb needed v.capacity)
       past_ahead = past_behind ∙ ap (λ o. unless_found o 14 (full (leb needed v.capacity))) (sym not_ahead)
 
@@ -52,19 +52,19 @@ module _ (kind : Meaning) (number_fits : kind.number ≤ 255) (v : View) (shut :
   refused : (refusal : Refusal) → take_refusal v sent ≡ Some refusal → TakeRefused kind v bytes refusal
   refused refusal h = checked shut (sent, lawful, is, h)
 
-  pub take_behind : (place : ℕ) → Some place ≡ first_of (is_behind v) 0 0 (records_in bytes) → TakeRefused kind v bytes (by_table 13 place)
-  take_behind place found = refused _ (refused_behind v sent place (found ∙ ap (first_of (is_behind v) 0 0) told))
+  pub take_behind : (place : ℕ) → Some place ≡ first_place (is_behind v) 0 0 (records_in bytes) → TakeRefused kind v bytes (by_table 13 place)
+  take_behind place found = refused _ (refused_behind v sent place (found ∙ ap (first_place (is_behind v) 0 0) told))
 
-  module _ (not_behind : None ≡ first_of (is_behind v) 0 0 (records_in bytes)) where
-    begun : None ≡ first_of (is_behind v) 0 0 (records sent)
-    begun = not_behind ∙ ap (first_of (is_behind v) 0 0) told
+  module _ (not_behind : None ≡ first_place (is_behind v) 0 0 (records_in bytes)) where
+    begun : None ≡ first_place (is_behind v) 0 0 (records sent)
+    begun = not_behind ∙ ap (first_place (is_behind v) 0 0) told
 
-    pub take_ahead : (place : ℕ) → Some place ≡ first_of (is_ahead v) 0 0 (records_in bytes) → TakeRefused kind v bytes (by_table 14 place)
-    take_ahead place found = refused _ (refused_ahead v sent begun place (found ∙ ap (first_of (is_ahead v) 0 0) told))
+    pub take_ahead : (place : ℕ) → Some place ≡ first_place (is_ahead v) 0 0 (records_in bytes) → TakeRefused kind v bytes (by_table 14 place)
+    take_ahead place found = refused _ (refused_ahead v sent begun place (found ∙ ap (first_place (is_ahead v) 0 0) told))
 
-    module _ (not_ahead : None ≡ first_of (is_ahead v) 0 0 (records_in bytes)) where
-      within : None ≡ first_of (is_ahead v) 0 0 (records sent)
-      within = not_ahead ∙ ap (first_of (is_ahead v) 0 0) told
+    module _ (not_ahead : None ≡ first_place (is_ahead v) 0 0 (records_in bytes)) where
+      within : None ≡ first_place (is_ahead v) 0 0 (records sent)
+      within = not_ahead ∙ ap (first_place (is_ahead v) 0 0) told
 
       pub take_full : v.capacity < length v.history + length (new_actions v.rows v.setup.own bytes) → TakeRefused kind v bytes (by_history 16 v.capacity)
       take_full over = refused _ (refused_full v sent begun within (omega (arith, ap length new_in)))

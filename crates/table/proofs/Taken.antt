@@ -15,10 +15,10 @@ use Rattle.kind.specs.Meaning.{Meaning}
 use Rattle.kind.specs.Working.{knows_action, on, working}
 use Rattle.kind.proofs.Workings.{working_placed}
 use Rattle.message.specs.declared.records.Interval.{Interval}
-use Rattle.message.specs.Format.{Message, Section, carried, records, stretches}
+use Rattle.message.specs.Format.{Message, Section, carried, records, told_intervals}
 use Rattle.message.specs.Lawful.{Carries, LawfulAction, LawfulInterval, LawfulMessage, LawfulSection}
-use Rattle.message.specs.Walks.{first_of}
-use Rattle.message.proofs.Carried.{carried_lawful, carried_ranked, carried_within, none_found, stretches_lawful, stretches_of}
+use Rattle.message.specs.Walks.{first_place}
+use Rattle.message.proofs.Carried.{carried_lawful, carried_ranked, carried_within, none_found, told_intervals_lawful, told_intervals_of}
 use Rattle.row.specs.declared.rows.Row.{Row}
 use Rattle.row.specs.Entries.{at, no_row}
 use Rattle.row.proofs.RowLaws.{by_row, length_each_row, row_each}
@@ -44,29 +44,29 @@ module _ (v : View) (m : Message) (passes : take_refusal v m ≡ None) where
   full = unless (leb (length v.history + length (news v m)) v.capacity) (by_history 16 v.capacity) None
 
   abbrev ahead : Option Refusal
-  ahead = unless_found (first_of (is_ahead v) 0 0 (records m)) 14 full
+  ahead = unless_found (first_place (is_ahead v) 0 0 (records m)) 14 full
 
-  first : (first_of (is_behind v) 0 0 (records m) ≡ None) × (ahead ≡ None)
-  first = unfound (first_of (is_behind v) 0 0 (records m)) 13 ahead passes
+  first : (first_place (is_behind v) 0 0 (records m) ≡ None) × (ahead ≡ None)
+  first = unfound (first_place (is_behind v) 0 0 (records m)) 13 ahead passes
 
-  second : (first_of (is_ahead v) 0 0 (records m) ≡ None) × (full ≡ None)
-  second = unfound (first_of (is_ahead v) 0 0 (records m)) 14 full first.1
+  second : (first_place (is_ahead v) 0 0 (records m) ≡ None) × (full ≡ None)
+  second = unfound (first_place (is_ahead v) 0 0 (records m)) 14 full first.1
 
-  pub not_behind : AllByRecursion (λ h. is_behind v h.0 h.1 ≡ false) (stretches m)
-  not_behind = subst (AllByRecursion (λ h. is_behind v h.0 h.1 ≡ false)) (stretches_of 0 m) (none_found (is_behind v) 0 0 (records m) first.0)
+  pub not_behind : AllByRecursion (λ h. is_behind v h.0 h.1 ≡ false) (told_intervals m)
+  not_behind = subst (AllByRecursion (λ h. is_behind v h.0 h.1 ≡ false)) (told_intervals_of 0 m) (none_found (is_behind v) 0 0 (records m) first.0)
 
   -- every interval begins at what this table has reached, or below it
-  pub begun_within : AllByRecursion (λ h. h.1.from ≤ entry v h.0 mine h.1.site) (stretches m)
+  pub begun_within : AllByRecursion (λ h. h.1.from ≤ entry v h.0 mine h.1.site) (told_intervals m)
   begun_within =
-      All-weaker (λ h. is_behind v h.0 h.1 ≡ false) (λ h. h.1.from ≤ entry v h.0 mine h.1.site) (λ h k. ltb-false (entry v h.0 mine h.1.site) h.1.from k) (stretches m) not_behind
+      All-weaker (λ h. is_behind v h.0 h.1 ≡ false) (λ h. h.1.from ≤ entry v h.0 mine h.1.site) (λ h k. ltb-false (entry v h.0 mine h.1.site) h.1.from k) (told_intervals m) not_behind
 
   pub room_left : length v.history + length (news v m) ≤ v.capacity
   room_left = leb-true (length v.history + length (news v m)) v.capacity (passed (leb (length v.history + length (news v m)) v.capacity) (by_history 16 v.capacity) None second.1).0
 
 -- no interval goes past the last time that there is
-pub latest_in_time : (kind : Meaning) (setup : Setup) (m : Message) → LawfulMessage kind setup m → (t : ℕ) → t ≤ 4000000000 → greatest (λ (h : ℕ × Interval). h.1.to) t (stretches m) ≤ 4000000000
+pub latest_in_time : (kind : Meaning) (setup : Setup) (m : Message) → LawfulMessage kind setup m → (t : ℕ) → t ≤ 4000000000 → greatest (λ (h : ℕ × Interval). h.1.to) t (told_intervals m) ≤ 4000000000
 latest_in_time kind setup m l t before =
-    greatest_le (λ (h : ℕ × Interval). h.1.to) 4000000000 t (stretches m) before (All-weaker (λ h. (h.0 < setup.articles) × LawfulInterval setup h.1) (λ h. h.1.to ≤ 4000000000) (λ h k. k.1.in_time) (stretches m) (stretches_lawful kind setup m l))
+    greatest_le (λ (h : ℕ × Interval). h.1.to) 4000000000 t (told_intervals m) before (All-weaker (λ h. (h.0 < setup.articles) × LawfulInterval setup h.1) (λ h. h.1.to ≤ 4000000000) (λ h k. k.1.in_time) (told_intervals m) (told_intervals_lawful kind setup m l))
 
 -- THE ENTRIES
 
@@ -83,27 +83,27 @@ module _ (kind : Meaning) (v : View) (m : Message) (s : Sound kind v) (l : Lawfu
   sender_lt : m.sender < 8
   sender_lt = omega (arith, l.sent, v.setup.few_sites)
 
-  lawful : AllByRecursion (λ h. (h.0 < v.setup.articles) × LawfulInterval v.setup h.1) (stretches m)
-  lawful = stretches_lawful kind v.setup m l
+  lawful : AllByRecursion (λ h. (h.0 < v.setup.articles) × LawfulInterval v.setup h.1) (told_intervals m)
+  lawful = told_intervals_lawful kind v.setup m l
 
   abbrev about : ℕ → List (ℕ × Interval)
-  about a = filter (λ h. eqb h.0 a) (stretches m)
+  about a = filter (λ h. eqb h.0 a) (told_intervals m)
 
   sited : (a : ℕ) → AllByRecursion (λ h. h.1.site < 8) (about a)
   sited a =
-      all_kept_by (λ h. eqb h.0 a) (λ h. h.1.site < 8) (stretches m) (All-weaker (λ h. (h.0 < v.setup.articles) × LawfulInterval v.setup h.1) (λ h. h.1.site < 8) (λ h k. omega (arith, k.1.of_group, v.setup.few_sites)) (stretches m) lawful)
+      all_kept_by (λ h. eqb h.0 a) (λ h. h.1.site < 8) (told_intervals m) (All-weaker (λ h. (h.0 < v.setup.articles) × LawfulInterval v.setup h.1) (λ h. h.1.site < 8) (λ h k. omega (arith, k.1.of_group, v.setup.few_sites)) (told_intervals m) lawful)
 
   square_row : (a : ℕ) → a < length v.rows → Square (row v a).known
   square_row a lt = All-get_or (λ r. Square r.known) v.rows a no_row lt s.square
 
-  none_past : (a q : ℕ) → length v.rows ≤ a → highest a q (stretches m) ≤ 0
+  none_past : (a q : ℕ) → length v.rows ≤ a → highest a q (told_intervals m) ≤ 0
   none_past a q past =
-      highest_le a q (stretches m) 0 (All-weaker (λ h. (h.0 < v.setup.articles) × LawfulInterval v.setup h.1) (λ h. (h.0 ≡ a) → (h.1.site ≡ q) → h.1.to ≤ 0) (λ h k same _. absurd (omega (arith, k.0, same, s.each_article, v.setup.few_articles))) (stretches m) lawful)
+      highest_le a q (told_intervals m) 0 (All-weaker (λ h. (h.0 < v.setup.articles) × LawfulInterval v.setup h.1) (λ h. (h.0 ≡ a) → (h.1.site ≡ q) → h.1.to ≤ 0) (λ h k same _. absurd (omega (arith, k.0, same, s.each_article, v.setup.few_articles))) (told_intervals m) lawful)
 
   -- this table's entries and the sender's are raised to where the intervals go
-  pub taken_told : (a z q : ℕ) → (z ≡ own) ⊎ (z ≡ m.sender) → entry w a z q ≡ max (entry v a z q) (highest a q (stretches m))
+  pub taken_told : (a z q : ℕ) → (z ≡ own) ⊎ (z ≡ m.sender) → entry w a z q ≡ max (entry v a z q) (highest a q (told_intervals m))
   taken_told a z q told =
-      by_row (taken_row kind v m) v.rows (λ b r. at r.known z q ≡ max (entry v b z q) (highest b q (stretches m))) (λ b past. omega (arith, none_past b q past)) (λ b lt. at_told own m.sender own_lt sender_lt z told (row v b).known (about b) (square_row b lt) (sited b) q ∙ ap (max (entry v b z q)) (up_to_highest b q (stretches m))) a
+      by_row (taken_row kind v m) v.rows (λ b r. at r.known z q ≡ max (entry v b z q) (highest b q (told_intervals m))) (λ b past. omega (arith, none_past b q past)) (λ b lt. at_told own m.sender own_lt sender_lt z told (row v b).known (about b) (square_row b lt) (sited b) q ∙ ap (max (entry v b z q)) (up_to_highest b q (told_intervals m))) a
 
   -- and no others change
   pub taken_untold : (a z q : ℕ) → (z ≡ own → ⊥) → (z ≡ m.sender → ⊥) → entry w a z q ≡ entry v a z q
@@ -117,8 +117,8 @@ module _ (kind : Meaning) (v : View) (m : Message) (s : Sound kind v) (l : Lawfu
       (λ other. ⊎_elim (λ e. omega (arith, taken_told a z q (inr e))) (λ another. omega (arith, taken_untold a z q other another)) (cases_eq z m.sender))
       (cases_eq z own)
 
-  pub taken_reaches : (a z : ℕ) (i : Interval) → (z ≡ own) ⊎ (z ≡ m.sender) → Has (stretches m) (a, i) → i.to ≤ entry w a z i.site
-  taken_reaches a z i told h = omega (arith, taken_told a z i.site told, highest_ge a i (stretches m) h)
+  pub taken_reaches : (a z : ℕ) (i : Interval) → (z ≡ own) ⊎ (z ≡ m.sender) → Has (told_intervals m) (a, i) → i.to ≤ entry w a z i.site
+  taken_reaches a z i told h = omega (arith, taken_told a z i.site told, highest_ge a i (told_intervals m) h)
 
   -- no own entry is below another site's
   taken_believed : (a z q : ℕ) → entry w a z q ≤ entry w a own q
@@ -136,8 +136,8 @@ module _ (kind : Meaning) (v : View) (m : Message) (s : Sound kind v) (l : Lawfu
 
   taken_clocked : (a q : ℕ) → entry w a own q ≤ w.clock
   taken_clocked a q =
-      let high : highest a q (stretches m) ≤ w.clock = highest_le a q (stretches m) w.clock (All-weaker (λ h. to h ≤ w.clock) (λ h. (h.0 ≡ a) → (h.1.site ≡ q) → to h ≤ w.clock) (λ h k _ _. k) (stretches m) (greatest_ge to v.clock (stretches m))) in
-      omega (arith, taken_told a own q (inl refl), s.clocked a q, greatest_from to v.clock (stretches m))
+      let high : highest a q (told_intervals m) ≤ w.clock = highest_le a q (told_intervals m) w.clock (All-weaker (λ h. to h ≤ w.clock) (λ h. (h.0 ≡ a) → (h.1.site ≡ q) → to h ≤ w.clock) (λ h k _ _. k) (told_intervals m) (greatest_ge to v.clock (told_intervals m))) in
+      omega (arith, taken_told a own q (inl refl), s.clocked a q, greatest_from to v.clock (told_intervals m))
 
   taken_in_time : w.clock ≤ 4000000000
   taken_in_time = latest_in_time kind v.setup m l v.clock (omega (arith, s.in_time))
@@ -166,7 +166,7 @@ module _ (kind : Meaning) (v : View) (m : Message) (s : Sound kind v) (l : Lawfu
 
   pub news_reached : AllByRecursion (λ x. x.time ≤ entry w x.article own x.coordinator) (news v m)
   news_reached =
-      all_kept_by (is_new v) (λ x. x.time ≤ entry w x.article own x.coordinator) (carried m) (All-weaker (λ x. (i : Interval) × Has (stretches m) (x.article, i) × Carries i x) (λ x. x.time ≤ entry w x.article own x.coordinator) (λ x h.
+      all_kept_by (is_new v) (λ x. x.time ≤ entry w x.article own x.coordinator) (carried m) (All-weaker (λ x. (i : Interval) × Has (told_intervals m) (x.article, i) × Carries i x) (λ x. x.time ≤ entry w x.article own x.coordinator) (λ x h.
       subst (λ (q : ℕ). x.time ≤ entry w x.article own q) h.2.0 (omega (arith, h.2.2, taken_reaches x.article own h.0 (inl refl) h.1))) (carried m) (carried_within kind v.setup m l))
 
   -- none of them stands in the history

@@ -9,9 +9,9 @@ use Rattle.message.specs.declared.records.Interval.{Interval}
 use Rattle.message.specs.declared.faults.ReaderFault.{ReaderFault}
 use Rattle.message.specs.Faults as ReaderFaults
 use Rattle.message.specs.Checks.{Refused}
-use Rattle.message.specs.Format.{Message, carried, format, records, stretches}
+use Rattle.message.specs.Format.{Message, carried, format, records, told_intervals}
 use Rattle.message.specs.Lawful.{LawfulMessage}
-use Rattle.message.specs.Walks.{first_of}
+use Rattle.message.specs.Walks.{first_place}
 use Rattle.row.specs.declared.rows.Row.{Row}
 use Rattle.row.specs.Passes.{is_ahead_in, is_behind_in, is_new_in, latest_to, raised_by}
 use Rattle.row.specs.Entries.{each_row}
@@ -43,8 +43,8 @@ unless_found (Some place) number rest = Some (by_table number place)
 -- the checks of a lawful message
 abbrev pub take_refusal : View → Message → Option Refusal
 take_refusal v m =
-    unless_found (first_of (is_behind v) 0 0 (records m)) 13
-    (unless_found (first_of (is_ahead v) 0 0 (records m)) 14
+    unless_found (first_place (is_behind v) 0 0 (records m)) 13
+    (unless_found (first_place (is_ahead v) 0 0 (records m)) 14
     (unless (nat_le (length v.history + length (news v m)) v.capacity) (by_history 16 v.capacity) None))
 
 -- how far the intervals go for an article and a site, 0 where there are none
@@ -58,14 +58,14 @@ abbrev pub taken_row : Meaning → View → Message → ℕ → Row → Row
 taken_row kind v m a r = record {
   base = r.base;
   kept = figure_after kind a r (taken_history v m) (news v m);
-  known = fold (raised_by v.setup.own m.sender) r.known (filter (λ h. nat_eq h.0 a) (stretches m));
+  known = fold (raised_by v.setup.own m.sender) r.known (filter (λ h. nat_eq h.0 a) (told_intervals m));
 }
 
 -- the clock is raised to the greatest to
 abbrev pub taken : Meaning → View → Message → View
 taken kind v m = record {
   setup = v.setup;
-  clock = latest_to v.clock (stretches m);
+  clock = latest_to v.clock (told_intervals m);
   is_open = v.is_open;
   pending = v.pending;
   rows = each_row (taken_row kind v m) 0 v.rows;
