@@ -23,7 +23,6 @@ use Rattle.message.specs.Progress.{admitted, named, start}
 use Rattle.message.specs.Reading.{is_due, onward, reading}
 use Rattle.message.proofs.Decodings.{decoded_format}
 use Rattle.message.proofs.Onward.{first_on, header_on, not_none}
-use Rattle.message.proofs.Refusing.{named_told}
 use Rattle.message.proofs.Steps.{onward_passes, record_size}
 
 -- one list begins the other
@@ -82,7 +81,7 @@ module _ (kind : Meaning) (setup : Setup) where
       let same = same_record p.due r head rest is header_due fits o.fitting s o.starts in
       let t = header_on kind setup p q head refl (ap (admitted kind setup p) (sym same) ∙ so) in
       let is-it : o.header ≡ t.0 = headers o.header t.0 t.1 in
-      o.other (named_told kind setup o.header (ap (named kind setup) is-it ∙ t.2))
+      false≢true (sym o.other ∙ ap (named kind setup) is-it ∙ t.2)
     where
       headers : (g h : Header) → RecordKinds.Header g ≡ RecordKinds.Header h → g ≡ h
       headers g h e = cc

@@ -1,5 +1,6 @@
 -- What a message carries: its intervals and its actions, as its records have them. Assumes nothing.
-use Rattle.std.proofs.Common.{◌≡◌, ℕ, ◌+◌, ◌<◌, Bool, false, List, [], ◌∷◌, ◌++◌, map, Some, None, sym, refl, ap, ◌∙◌, subst, ⊎_elim, arith}
+use Rattle.std.proofs.Common.{◌≡◌, ℕ, ◌+◌, ◌<◌, Bool, false, List, [], ◌∷◌, ◌++◌, map, Some, None, Option, sym, refl, ap, ◌∙◌, subst, ⊎_elim, arith}
+use Rattle.std.specs.Option.{option_map}
 use Rattle.std.specs.List.{flat_map, ContainsAt as Has, AllByRecursion}
 use Rattle.std.proofs.ByRecursion.{All-append, all-has, all_has_itself, All-map, All-weaker, has_append_left, has_append_right}
 use Rattle.std.proofs.lemmas.Bool.{cases_Bool, cond-false, cond-true}
@@ -8,12 +9,14 @@ use Rattle.action.specs.declared.setups.Setup.{Setup}
 use Rattle.action.proofs.Members.{has_cons_cases, has_first, has_later, has_none}
 use Rattle.action.proofs.Ranks.{AllRanked, Ranked, ascending_ranked, ranked_append, ranked_unless}
 use Rattle.kind.specs.Meaning.{Meaning}
+use Rattle.message.specs.declared.reading.Stretch.{Stretch}
 use Rattle.message.specs.declared.records.Interval.{Interval}
 use Rattle.message.specs.declared.records.Record.{Record}
 use Rattle.message.specs.declared.records.Record.TheVariants as RecordKinds
 use Rattle.message.specs.Format.{Message, Section, carried, records, section_records, told_intervals}
+use Rattle.message.specs.Found.{first_place}
 use Rattle.message.specs.Lawful.{Carries, LawfulAction, LawfulInterval, LawfulMessage, LawfulSection, Rising}
-use Rattle.message.specs.Walks.{actions_of, first_place, intervals_of}
+use Rattle.message.specs.Walks.{actions_of, intervals_of}
 use Rattle.message.proofs.SectionIntervals.{all_from_map}
 
 -- LISTS IN A ROW
@@ -44,9 +47,15 @@ none_found test at a (RecordKinds.Section s ∷ rs) h = none_found test (at + 5)
 none_found test at a (RecordKinds.Action _ ∷ rs) h = none_found test (at + 16) a rs h
 none_found test at a (RecordKinds.Interval i ∷ rs) h =
     ⊎_elim
-    (λ e. absurd (let f : Some at ≡ None = sym (cond-true (test a i) (Some at) _ e) ∙ h in cc))
-    (λ e. (e, none_found test (at + 10) a rs (sym (cond-false (test a i) (Some at) _ e) ∙ h)))
+    (λ e. absurd (let f : Some at ≡ None = sym (ap place (cond-true (test a i) (Some first) _ e)) ∙ h in cc))
+    (λ e. (e, none_found test (at + 10) a rs (sym (ap place (cond-false (test a i) (Some first) _ e)) ∙ h)))
     (cases_Bool (test a i))
+  where
+    first : Stretch
+    first = record { offset = at; article = a; interval = i }
+
+    place : Option Stretch → Option ℕ
+    place o = option_map (λ s. s.offset) o
 
 -- RECORDS OF ONE KIND, AND THE REST
 

@@ -34,7 +34,8 @@ module _ (kind : Meaning) (setup : Setup) (p : Progress) (at : ℕ) (rest : List
   foreign_or_broken w v o b =
       let head = RecordKinds.Header o.header in
       let head_due = ap (λ d. is_due d head) o.first in
-      o.other (b.ours o.header (same_record p.due b.breaks head rest b.was_due head_due b.fitting o.fitting b.starts o.starts))
+      let same = same_record p.due b.breaks head rest b.was_due head_due b.fitting o.fitting b.starts o.starts in
+      false≢true (sym o.other ∙ b.ours o.header same)
 
   foreign_or_trailing : (w v : Refusal) → Foreign kind setup p rest w → Trailing p at rest v → ⊥
   foreign_or_trailing w v o f = let e : Due.Header ≡ Due.End = sym o.first ∙ f.ended in cc

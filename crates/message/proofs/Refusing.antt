@@ -1,8 +1,8 @@
 -- What a refused step tells of the rest of the bytes. Assumes nothing.
-use Rattle.std.proofs.Common.{◌≡◌, ℕ, ◌<◌, ◌≤◌, Bool, true, false, cond, eqb, ◌⊎◌, List, [], length, get_or, drop, Some, None, Ok, Err, Option, Result, sym, refl, ap, ◌∙◌, subst, inl, inr, ⊎_elim, arith}
+use Rattle.std.proofs.Common.{◌≡◌, ℕ, ◌<◌, ◌≤◌, Bool, true, false, cond, ◌⊎◌, List, [], length, get_or, drop, Some, None, Ok, Err, Option, Result, sym, refl, ap, ◌∙◌, subst, inl, inr, ⊎_elim, arith}
 use Rattle.std.specs.Result.{result_ok}
 use Rattle.std.proofs.lemmas.List.{nil_from_length}
-use Rattle.std.proofs.lemmas.Bool.{and_from, and_parts, both_ways, eq-eqb, eqb-false, eqb-true, false≢true}
+use Rattle.std.proofs.lemmas.Bool.{eqb-false, eqb-true, false≢true}
 use Rattle.action.specs.declared.setups.Setup.{Setup}
 use Rattle.kind.specs.Meaning.{Meaning}
 use Rattle.message.specs.declared.faults.Flaw.{Flaw}
@@ -13,7 +13,7 @@ use Rattle.message.specs.declared.reading.Progress.{Progress}
 use Rattle.message.specs.declared.records.Header.{Header}
 use Rattle.message.specs.declared.records.Record.{Record}
 use Rattle.message.specs.declared.records.Record.TheVariants as RecordKinds
-use Rattle.message.specs.Checks.{Named, Reason, StartsWith, broken, cut, foreign, trailing}
+use Rattle.message.specs.Checks.{Reason, StartsWith, broken, cut, foreign, trailing}
 use Rattle.message.specs.Decoding.{decoded}
 use Rattle.message.specs.Faults.{fault_at, shown}
 use Rattle.message.specs.Fields.{Fitting}
@@ -78,19 +78,13 @@ header_due Due.Action h is = absurd (false≢true is)
 header_due Due.End h is = absurd (false≢true is)
 
 module _ (kind : Meaning) (setup : Setup) where
-  pub named_told : (h : Header) → named kind setup h ≡ true → Named kind setup h
-  named_told h e = let parts = and_parts (eqb h.group setup.group) _ e in (eqb-true _ _ parts.0, eqb-true _ _ parts.1)
-
-  not_named : (h : Header) → named kind setup h ≡ false → Named kind setup h → ⊥
-  not_named h e n = both_ways (named kind setup h) e (and_from _ _ (eq-eqb _ _ n.0) (eq-eqb _ _ n.1))
-
   module _ (p : Progress) where
     -- a refused record is a header of another group or kind, or it breaks a rule and is no such header
-    refused_told : (r : Record) (f : Flaw) → is_due p.due r ≡ true → admitted kind setup p r ≡ Err f → ((Foreign ≡ f) × ((h : Header) × (r ≡ RecordKinds.Header h) × (p.due ≡ Due.Header) × (Named kind setup h → ⊥))) ⊎ ((Broken ≡ f) × ((h : Header) → r ≡ RecordKinds.Header h → Named kind setup h))
+    refused_told : (r : Record) (f : Flaw) → is_due p.due r ≡ true → admitted kind setup p r ≡ Err f → ((Foreign ≡ f) × ((h : Header) × (r ≡ RecordKinds.Header h) × (p.due ≡ Due.Header) × (named kind setup h ≡ false))) ⊎ ((Broken ≡ f) × ((h : Header) → r ≡ RecordKinds.Header h → named kind setup h ≡ true))
     refused_told (RecordKinds.Header h) f is so =
         ⊎_elim
-        (λ k. inl (k.1, (h, refl, header_due p.due h is, not_named h k.0)))
-        (λ k. inr (k.1, λ g same. let e : h ≡ g = cc in named_told g (ap (named kind setup) (sym e) ∙ k.0)))
+        (λ k. inl (k.1, (h, refl, header_due p.due h is, k.0)))
+        (λ k. inr (k.1, λ g same. let e : h ≡ g = cc in ap (named kind setup) (sym e) ∙ k.0))
         (header_flawed (named kind setup h) (lawful_header setup h) (after_header p h) f so)
     refused_told (RecordKinds.Section s) f is so = inr (other_flawed _ _ f so, λ h same. cc)
     refused_told (RecordKinds.Interval i) f is so = inr (other_flawed _ _ f so, λ h same. cc)

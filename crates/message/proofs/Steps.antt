@@ -16,7 +16,8 @@ use Rattle.message.specs.Decoding.{decoded}
 use Rattle.message.specs.Fields.{Fitting}
 use Rattle.message.specs.Format.{record_bytes}
 use Rattle.message.specs.Progress.{admitted, start}
-use Rattle.message.specs.Reading.{Begun, Next, is_action, is_due, judged, onward, step, stepped}
+use Rattle.message.specs.Reading.{Next, is_action, is_due, judged, onward, step, stepped}
+use Rattle.message.specs.Scanning.{Begun}
 use Rattle.message.proofs.Formats.{joined_push}
 use Rattle.message.proofs.Recoding.{whole_back}
 
@@ -39,34 +40,39 @@ onward_passes kind setup p q r is passed = ap (λ b. cond b (result_ok (admitted
 
 module _ (kind : Meaning) (setup : Setup) (bytes : List ℕ) (fits : (i : ℕ) → get_or bytes i 0 < 256) where
   abbrev pub begun_none : Begun kind setup bytes 0 start
-  begun_none = record { records = []; lawful = refl; fitting = tt; front = refl; far = refl }
+  begun_none = ([], record { lawful = refl; fitting = tt; front = refl }, refl)
 
   abbrev pub begun_more : (at : ℕ) (p q : Progress) (r : Record) (b : Begun kind setup bytes at p) → step kind setup p at (drop at bytes) ≡ Ok (Some (r, q)) → Begun kind setup bytes (at + length (record_bytes r)) q
   begun_more at p q r b h =
       let parts = found_record kind setup p q at r (decoded p.due (drop at bytes)) h in
       let back = whole_back (drop at bytes) (λ i. subst (λ (n : ℕ). n < 256) (sym (get_or-drop at bytes i 0)) (fits (at + i))) p.due r parts.0 in
       let size = length (record_bytes r) in
-      record {
-        records = b.records ++ (r ∷ []);
-        lawful = fold_push (onward kind setup) (Some start) b.records r ∙ ap (λ o. onward kind setup o r) b.lawful ∙ onward_passes kind setup p q r back.0 parts.1;
-        fitting = All-push Fitting b.records r b.fitting back.1;
-        front = b.front ∙ ap (λ l. flat_map record_bytes b.records ++ l) (back.2 ∙ ap (λ l. record_bytes r ++ l) (drop-drop size at bytes)) ∙ sym (append_assoc (flat_map record_bytes b.records) (record_bytes r) (drop (at + size) bytes)) ∙ ap (λ l. l ++ drop (at + size) bytes) (sym (joined_push record_bytes b.records r));
-        far = ap (λ n. n + size) b.far ∙ sym (length-append (flat_map record_bytes b.records) (record_bytes r)) ∙ ap length (sym (joined_push record_bytes b.records r));
-      }
+      let rs = b.0 in
+      let before = flat_map record_bytes rs in
+      let past = drop (at + size) bytes in
+      let joined = sym (joined_push record_bytes rs r) in (
+        rs ++ (r ∷ []),
+        record {
+          lawful = fold_push (onward kind setup) (Some start) rs r ∙ ap (λ o. onward kind setup o r) b.1.lawful ∙ onward_passes kind setup p q r back.0 parts.1;
+          fitting = All-push Fitting rs r b.1.fitting back.1;
+          front = b.1.front ∙ ap (λ l. before ++ l) (back.2 ∙ ap (λ l. record_bytes r ++ l) (drop-drop size at bytes)) ∙ sym (append_assoc before (record_bytes r) past) ∙ ap (λ l. l ++ past) joined;
+        },
+        ap (λ n. n + size) b.2 ∙ sym (length-append before (record_bytes r)) ∙ ap length joined,
+      )
 
   -- the same of a reader, whose set-up and bytes are these
   module _ (setup₁ : Setup) (same-setup : setup₁ ≡ setup) (bytes₁ : List ℕ) (same_bytes : bytes₁ ≡ bytes) where
-    pub read_more : (at to : ℕ) (p q : Progress) (f : Found) (b : Begun kind setup bytes at p) → Next kind setup₁ p at bytes₁ (Ok (Some f)) q to → (c : Begun kind setup bytes to q) × (c.records ≡ b.records ++ (f.«record» ∷ []))
+    pub read_more : (at to : ℕ) (p q : Progress) (f : Found) (b : Begun kind setup bytes at p) → Next kind setup₁ p at bytes₁ (Ok (Some f)) q to → (c : Begun kind setup bytes to q) × (c.0 ≡ b.0 ++ (f.«record» ∷ []))
     read_more at to p q f b h =
         let here = (λ i. step kind (sym same-setup i) p at (drop at (sym same_bytes i))) ∙ h.0 in
         let more = begun_more at p q f.«record» b here in
-        subst (λ (n : ℕ). (c : Begun kind setup bytes n q) × (c.records ≡ b.records ++ (f.«record» ∷ []))) (sym h.2) (more, refl)
+        subst (λ (n : ℕ). (c : Begun kind setup bytes n q) × (c.0 ≡ b.0 ++ (f.«record» ∷ []))) (sym h.2) (more, refl)
 
     -- and of how many actions there were so far
-    pub count_more : (at to : ℕ) (p q : Progress) (f : Found) (n : ℕ) → (b : Begun kind setup bytes at p) × (n ≡ count_by is_action b.records) → Next kind setup₁ p at bytes₁ (Ok (Some f)) q to → (t : Bool) → t ≡ is_action f.«record» → (c : Begun kind setup bytes to q) × (cond t (n + 1) n ≡ count_by is_action c.records)
+    pub count_more : (at to : ℕ) (p q : Progress) (f : Found) (n : ℕ) → (b : Begun kind setup bytes at p) × (n ≡ count_by is_action b.0) → Next kind setup₁ p at bytes₁ (Ok (Some f)) q to → (t : Bool) → t ≡ is_action f.«record» → (c : Begun kind setup bytes to q) × (cond t (n + 1) n ≡ count_by is_action c.0)
     count_more at to p q f n (b, so) h t is =
         let more = read_more at to p q f b h in
-        let one : count_by is_action more.0.records ≡ count_by is_action b.records + cond t 1 0 = ap (count_by is_action) more.1 ∙ sum_by_push (λ x. cond (is_action x) 1 0) b.records f.«record» ∙ ap (λ u. count_by is_action b.records + cond u 1 0) (sym is) in
+        let one : count_by is_action more.0.0 ≡ count_by is_action b.0 + cond t 1 0 = ap (count_by is_action) more.1 ∙ sum_by_push (λ x. cond (is_action x) 1 0) b.0 f.«record» ∙ ap (λ u. count_by is_action b.0 + cond u 1 0) (sym is) in
         (more.0, counts t n _ _ so one)
       where
         counts : (t : Bool) (n k l : ℕ) → n ≡ k → l ≡ k + cond t 1 0 → cond t (n + 1) n ≡ l

@@ -14,7 +14,8 @@ use Rattle.message.specs.Faults.{shown}
 use Rattle.message.specs.Format.{Message, format, record_bytes, records}
 use Rattle.message.specs.Lawful.{LawfulMessage, action_count}
 use Rattle.message.specs.Progress.{start}
-use Rattle.message.specs.Reading.{Scanned, is_action, is_due, reading}
+use Rattle.message.specs.Reading.{is_action, is_due, reading}
+use Rattle.message.specs.Scanning.{Scanned}
 use Rattle.message.proofs.Beginnings.{Begins, after_beginning, at_the_end, beginnings, begins_same, longest}
 use Rattle.message.proofs.Messages.{counted, lawful_reads, reads_lawful}
 use Rattle.message.proofs.Onward.{some_same}
@@ -25,10 +26,10 @@ module _ (kind : Meaning) (setup : Setup) (bytes : List ℕ) (fits : (i : ℕ) �
   pub scan_accepted : (r : Result ℕ ReaderFault) → Scanned kind setup bytes r → Accepted kind setup bytes r
   scan_accepted (Ok n) (p, at, b, h, many) =
       let end = ended_told kind setup p at (drop at bytes) h in
-      let m = reads_lawful kind setup b.records p b.lawful b.fitting end.0 in (
+      let m = reads_lawful kind setup b.0 p b.1.lawful b.1.fitting end.0 in (
         m.0,
         m.1,
-        b.front ∙ ap (λ l. flat_map record_bytes b.records ++ l) end.1 ∙ append-nil (flat_map record_bytes b.records) ∙ ap (flat_map record_bytes) (sym m.2),
+        b.1.front ∙ ap (λ l. flat_map record_bytes b.0 ++ l) end.1 ∙ append-nil (flat_map record_bytes b.0) ∙ ap (flat_map record_bytes) (sym m.2),
         many ∙ ap (count_by is_action) (sym m.2) ∙ counted m.0,
       )
   scan_accepted (Err e) h = tt
@@ -36,11 +37,11 @@ module _ (kind : Meaning) (setup : Setup) (bytes : List ℕ) (fits : (i : ℕ) �
   pub scan_refused : (r : Result ℕ ReaderFault) → Scanned kind setup bytes r → Refused kind setup bytes r
   scan_refused (Ok n) h = tt
   scan_refused (Err e) (p, at, b, h) = (
-    b.records,
+    b.0,
     p,
     drop at bytes,
-    record { lawful = b.lawful; fitting = b.fitting; front = b.front },
-    subst (λ (n : ℕ). Reason kind setup p n (drop at bytes) (shown e)) b.far (reason kind setup p at (drop at bytes) e (λ i. subst (λ (n : ℕ). n < 256) (sym (get_or-drop at bytes i 0)) (fits (at + i))) h),
+    b.1,
+    subst (λ (n : ℕ). Reason kind setup p n (drop at bytes) (shown e)) b.2 (reason kind setup p at (drop at bytes) e (λ i. subst (λ (n : ℕ). n < 256) (sym (get_or-drop at bytes i 0)) (fits (at + i))) h),
   )
 
 -- nothing is refused where the end is due and no bytes are left

@@ -7,10 +7,11 @@ use Rattle.kind.specs.Meaning.{Meaning}
 use Rattle.message.specs.declared.reading.Due.TheVariants as Due
 use Rattle.message.specs.declared.records.Record.{Record}
 use Rattle.message.specs.declared.records.Record.TheVariants as RecordKinds
+use Rattle.message.specs.Decoding.{whole}
 use Rattle.message.specs.Fields.{Fitting}
 use Rattle.message.specs.Format.{Message, format, record_bytes, records}
 use Rattle.message.specs.Lawful.{LawfulMessage}
-use Rattle.message.specs.Walks.{next_records, record_in, records_by, records_in, whole}
+use Rattle.message.specs.Walks.{next_records, record_in, records_by, records_in}
 use Rattle.message.proofs.Sameness.{lawful_fits}
 use Rattle.message.proofs.Decodings.{decoded_format}
 use Rattle.message.proofs.Steps.{record_size}

@@ -1,9 +1,9 @@
 -- What the iterators over a message yield. Assumes nothing.
-use Rattle.std.proofs.Common.{◌≡◌, ℕ, zero, suc, ◌+◌, ◌≤◌, Bool, true, false, cond, List, [], ◌∷◌, map, length, drop, Some, None, Option, refl, ap, ◌∙◌, arith}
+use Rattle.std.proofs.Common.{◌≡◌, ℕ, zero, suc, ◌+◌, ◌≤◌, Bool, List, [], ◌∷◌, map, length, drop, Some, None, Option, refl, ap, arith}
 use Rattle.std.specs.Bool.{⊤}
 use Rattle.std.specs.Iterator.{MakesProgress, YieldsFirst, item_count}
 use Rattle.std.specs.Iterator.Runs.{YieldsInOrder}
-use Rattle.std.specs.List.{find}
+use Rattle.std.specs.List.{cons_option, find}
 use Rattle.std.specs.Option.{option_map}
 use Rattle.std.proofs.iter.runs.Sources.{as_is, from_front}
 use Rattle.message.specs.declared.reading.Stretch.{Stretch}
@@ -11,8 +11,8 @@ use Rattle.message.specs.declared.records.Interval.{Interval}
 use Rattle.message.specs.declared.records.Record.{Record}
 use Rattle.message.specs.declared.records.Record.TheVariants as RecordKinds
 use Rattle.message.specs.Format.{record_bytes}
-use Rattle.message.specs.Found.{actions_among, found_from, placed, stretches_among, stretches_in, told}
-use Rattle.message.specs.Walks.{actions_of, first_place, intervals_of, next_records, record_in, records_by, records_in}
+use Rattle.message.specs.Found.{actions_among, first_place, found_from, placed, stretches_among, stretches_in, told}
+use Rattle.message.specs.Walks.{actions_of, intervals_of, its_action, next_records, record_in, records_by, records_in}
 use Rattle.message.proofs.Walking.{records_from}
 
 -- ITERATORS THAT ARE SEEN AS WHAT THEY HAVE LEFT
@@ -32,10 +32,7 @@ module _ (bytes : List ℕ) (at : ℕ) where
 
 pub actions_placed : (at : ℕ) (rs : List Record) → actions_among (placed at rs) ≡ actions_of rs
 actions_placed at [] = refl
-actions_placed at (RecordKinds.Header _ ∷ rs) = actions_placed (at + 6) rs
-actions_placed at (RecordKinds.Section _ ∷ rs) = actions_placed (at + 5) rs
-actions_placed at (RecordKinds.Interval _ ∷ rs) = actions_placed (at + 10) rs
-actions_placed at (RecordKinds.Action x ∷ rs) = ap (λ xs. x ∷ xs) (actions_placed (at + 16) rs)
+actions_placed at (r ∷ rs) = ap (cons_option (its_action r)) (actions_placed (at + length (record_bytes r)) rs)
 
 pub told_placed : (at a : ℕ) (rs : List Record) → map told (stretches_among a (placed at rs)) ≡ intervals_of a rs
 told_placed at a [] = refl
@@ -44,22 +41,10 @@ told_placed at a (RecordKinds.Section s ∷ rs) = told_placed (at + 5) s.article
 told_placed at a (RecordKinds.Interval i ∷ rs) = ap (λ is. (a, i) ∷ is) (told_placed (at + 10) a rs)
 told_placed at a (RecordKinds.Action _ ∷ rs) = told_placed (at + 16) a rs
 
--- the first stretch that passes a test
-pub first_placed : (test : ℕ → Interval → Bool) (at a : ℕ) (rs : List Record) → option_map (λ s. s.offset) (find (λ s. test s.article s.interval) (stretches_among a (placed at rs))) ≡ first_place test at a rs
-first_placed test at a [] = refl
-first_placed test at a (RecordKinds.Header _ ∷ rs) = first_placed test (at + 6) a rs
-first_placed test at a (RecordKinds.Section s ∷ rs) = first_placed test (at + 5) s.article rs
-first_placed test at a (RecordKinds.Action _ ∷ rs) = first_placed test (at + 16) a rs
-first_placed test at a (RecordKinds.Interval i ∷ rs) = by_test (test a i) _ _ (first_placed test (at + 10) a rs)
-  where
-    by_test : (b : Bool) (o : Option Stretch) (n : Option ℕ) → option_map (λ s. s.offset) o ≡ n → option_map (λ s. s.offset) (cond b (Some (record { offset = at; article = a; interval = i })) o) ≡ cond b (Some at) n
-    by_test true o n e = refl
-    by_test false o n e = e
-
 -- the place that `find` over a message's intervals answers, in the form in which std's lemma on `find` says what it found
 pub first_in : (test : ℕ → Interval → Bool) (bytes : List ℕ) (r : Option Stretch) → option_map (λ s. s) r ≡ find (λ s. test s.article s.interval) (stretches_in bytes) → option_map (λ s. s.offset) r ≡ first_place test 0 0 (records_in bytes)
-first_in test bytes None e = ap (option_map (λ s. s.offset)) e ∙ first_placed test 0 0 (records_in bytes)
-first_in test bytes (Some s) e = ap (option_map (λ s. s.offset)) e ∙ first_placed test 0 0 (records_in bytes)
+first_in test bytes None e = ap (option_map (λ s. s.offset)) e
+first_in test bytes (Some s) e = ap (option_map (λ s. s.offset)) e
 
 -- HOW MANY THERE ARE
 

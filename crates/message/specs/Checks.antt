@@ -1,5 +1,5 @@
 -- What the check of a message answers, in words of the format. Assumes nothing.
-use Rattle.std.specs.Prelude.{◌≡◌, ℕ, ◌≤◌, true, List, ◌++◌, length, Some, None, Ok, Err, Result}
+use Rattle.std.specs.Prelude.{◌≡◌, ℕ, ◌≤◌, true, false, List, ◌++◌, length, Some, None, Ok, Err, Result}
 use Rattle.std.specs.List.{flat_map, AllByRecursion}
 use Rattle.action.specs.declared.refusals.Refusal.{Refusal}
 use Rattle.action.specs.declared.setups.Setup.{Setup}
@@ -15,6 +15,7 @@ use Rattle.message.specs.Faults.{shown}
 use Rattle.message.specs.Fields.{Fitting}
 use Rattle.message.specs.Format.{Message, format, record_bytes}
 use Rattle.message.specs.Lawful.{LawfulMessage, action_count}
+use Rattle.message.specs.Progress.{named}
 use Rattle.message.specs.Reading.{is_due, onward, reading}
 
 -- MESSAGES
@@ -43,10 +44,6 @@ pub record Beginning (kind : Meaning) (setup : Setup) (bytes : List ℕ) (rs : L
 abbrev pub StartsWith : List ℕ → Record → Type 0
 StartsWith rest r = (more : List ℕ) × (rest ≡ record_bytes r ++ more)
 
--- the header names the table's group and kind
-abbrev pub Named : Meaning → Setup → Header → Type 0
-Named kind setup h = (h.group ≡ setup.group) × (h.kind ≡ kind.number)
-
 -- REFUSALS
 
 -- 9: a record is due, and the rest starts with none of its kind
@@ -62,7 +59,7 @@ pub record Foreign (kind : Meaning) (setup : Setup) (p : Progress) (rest : List 
   pub header : Header
   pub fitting : Fitting (RecordKinds.Header header)
   pub starts : StartsWith rest (RecordKinds.Header header)
-  pub other : Named kind setup header → ⊥
+  pub other : named kind setup header ≡ false
 
 -- 11: the rest starts with a record of the kind due that breaks a rule, and it is no header of another group or kind
 pub record Broken (kind : Meaning) (setup : Setup) (p : Progress) (at : ℕ) (rest : List ℕ) (refusal : Refusal) : Type 0 where
@@ -71,7 +68,7 @@ pub record Broken (kind : Meaning) (setup : Setup) (p : Progress) (at : ℕ) (re
   pub was_due : is_due p.due breaks ≡ true
   pub fitting : Fitting breaks
   pub starts : StartsWith rest breaks
-  pub ours : (h : Header) → breaks ≡ RecordKinds.Header h → Named kind setup h
+  pub ours : (h : Header) → breaks ≡ RecordKinds.Header h → named kind setup h ≡ true
   pub stops : onward kind setup (Some p) breaks ≡ None
 
 -- 12: the end is due, and bytes follow

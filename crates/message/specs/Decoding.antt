@@ -1,5 +1,7 @@
 -- Which record the next bytes are, where one of a kind is due. Assumes nothing.
 use Rattle.std.specs.Prelude.{ℕ, ◌+◌, ◌*◌, Bool, cond, ◌&&◌, List, length, Some, None, Ok, Err, Option, Result, ◌==◌, nat_le, slice_index}
+use Rattle.std.specs.Option.{option_flatten}
+use Rattle.std.specs.Result.{result_ok}
 use Rattle.action.specs.Bytes.{action_of, number4}
 use Rattle.message.specs.declared.faults.Flaw.{Flaw}
 use Rattle.message.specs.declared.faults.Flaw.TheVariants.{Cut, Trailing}
@@ -35,8 +37,11 @@ decoded Due.Interval bs = cond (begins 0x49 10 bs) (Ok (Some (RecordKinds.Interv
 decoded Due.Action bs = cond (begins 0x41 16 bs) (Ok (Some (RecordKinds.Action (action_of bs)))) (Err Cut)
 decoded Due.End bs = cond (length bs == 0) (Ok None) (Err Trailing)
 
+-- the record, where one was decoded
+abbrev pub whole : Result (Option Record) Flaw → Option Record
+whole d = option_flatten (result_ok d)
+
 -- how many bytes the record takes, where there is one
-abbrev pub size_of : Result (Option Record) Flaw → ℕ
-size_of (Ok (Some r)) = length (record_bytes r)
-size_of (Ok None) = 0
-size_of (Err _) = 0
+abbrev pub size_of : Option Record → ℕ
+size_of None = 0
+size_of (Some r) = length (record_bytes r)

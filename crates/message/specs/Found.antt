@@ -1,6 +1,7 @@
 -- The records that bytes hold, each with its place, and the intervals and actions among them. Assumes nothing.
-use Rattle.std.specs.Prelude.{ℕ, ◌+◌, List, [], ◌∷◌, length, drop, None, Some, Option}
-use Rattle.std.specs.List.{cons_option, filter_map}
+use Rattle.std.specs.Prelude.{ℕ, ◌+◌, Bool, List, [], ◌∷◌, length, drop, None, Some, Option}
+use Rattle.std.specs.List.{cons_option, filter_map, find}
+use Rattle.std.specs.Option.{option_map}
 use Rattle.action.specs.declared.orders.Action.{Action}
 use Rattle.message.specs.declared.reading.Found.{Found}
 use Rattle.message.specs.declared.reading.Stretch.{Stretch}
@@ -36,6 +37,11 @@ stretches_in bytes = stretches_among 0 (found_in bytes)
 -- an interval with its article, without its place
 abbrev pub told : Stretch → ℕ × Interval
 told s = (s.article, s.interval)
+
+-- where the first interval stands that passes a test, of records that begin at place at, the first about article a
+abbrev pub first_place : (ℕ → Interval → Bool) → ℕ → ℕ → List Record → Option ℕ
+first_place test at a rs =
+    option_map (λ s. s.offset) (find (λ s. test s.article s.interval) (stretches_among a (placed at rs)))
 
 -- the actions among them
 abbrev pub actions_among : List Found → List Action

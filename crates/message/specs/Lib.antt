@@ -8,4 +8,5 @@ pub mod Found
 pub mod Lawful
 pub mod Progress
 pub mod Reading
+pub mod Scanning
 pub mod Walks

@@ -1,6 +1,5 @@
 -- How bytes are read, record by record. Assumes nothing.
-use Rattle.std.specs.Prelude.{◌≡◌, ℕ, ◌+◌, Bool, true, false, cond, List, ◌++◌, length, drop, Some, None, Ok, Err, fold, count_by, Option, Result}
-use Rattle.std.specs.List.{flat_map, AllByRecursion}
+use Rattle.std.specs.Prelude.{◌≡◌, ℕ, ◌+◌, Bool, true, false, cond, List, length, drop, Some, None, Ok, Err, fold, Option, Result}
 use Rattle.std.specs.Option.{is_some}
 use Rattle.std.specs.Result.{result_ok}
 use Rattle.action.specs.declared.setups.Setup.{Setup}
@@ -14,7 +13,6 @@ use Rattle.message.specs.declared.records.Record.{Record}
 use Rattle.message.specs.declared.records.Record.TheVariants as RecordKinds
 use Rattle.message.specs.Decoding.{decoded}
 use Rattle.message.specs.Faults.{fault_at}
-use Rattle.message.specs.Fields.{Fitting}
 use Rattle.message.specs.Format.{record_bytes}
 use Rattle.message.specs.Progress.{admitted, start}
 use Rattle.message.specs.Walks.{its_action}
@@ -74,17 +72,3 @@ reading kind setup rs = fold (onward kind setup) (Some start) rs
 
 abbrev pub is_action : Record → Bool
 is_action r = is_some (its_action r)
-
--- the first bytes are these records, each due and lawful after those before it
-pub record Begun (kind : Meaning) (setup : Setup) (bytes : List ℕ) (at : ℕ) (p : Progress) : Type 0 where
-  pub records : List Record
-  pub lawful : reading kind setup records ≡ Some p
-  pub fitting : AllByRecursion Fitting records
-  pub front : bytes ≡ flat_map record_bytes records ++ drop at bytes
-  pub far : at ≡ length (flat_map record_bytes records)
-
--- what reading all the bytes comes to: a whole message with so many actions, or a refusal after a lawful beginning
-abbrev pub Scanned : Meaning → Setup → List ℕ → Result ℕ ReaderFault → Type 0
-Scanned kind setup bytes (Ok n) =
-    (p : Progress) × (at : ℕ) × (b : Begun kind setup bytes at p) × (step kind setup p at (drop at bytes) ≡ Ok None) × (n ≡ count_by is_action b.records)
-Scanned kind setup bytes (Err e) = (p : Progress) × (at : ℕ) × Begun kind setup bytes at p × (step kind setup p at (drop at bytes) ≡ Err e)

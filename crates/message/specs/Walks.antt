@@ -1,19 +1,13 @@
 -- The records that bytes hold one after another, and what they say. Assumes nothing.
-use Rattle.std.specs.Prelude.{ℕ, zero, suc, ◌+◌, Bool, cond, List, [], ◌∷◌, length, drop, Some, None, Option, Result, ◌==◌, slice_index}
-use Rattle.std.specs.Option.{option_flatten}
-use Rattle.std.specs.Result.{result_ok}
-use Rattle.message.specs.declared.faults.Flaw.{Flaw}
-use Rattle.message.specs.declared.reading.Due.{Due}
+use Rattle.std.specs.Prelude.{ℕ, zero, suc, cond, List, [], ◌∷◌, length, drop, Some, None, Option, ◌==◌, slice_index}
+use Rattle.std.specs.List.{filter_map}
 use Rattle.action.specs.declared.orders.Action.{Action}
+use Rattle.message.specs.declared.reading.Due.{Due}
 use Rattle.message.specs.declared.records.Interval.{Interval}
 use Rattle.message.specs.declared.records.Record.{Record}
 use Rattle.message.specs.declared.records.Record.TheVariants as RecordKinds
-use Rattle.message.specs.Decoding.{decoded}
+use Rattle.message.specs.Decoding.{decoded, whole}
 use Rattle.message.specs.Format.{record_bytes}
-
--- the record, where one was decoded
-abbrev pub whole : Result (Option Record) Flaw → Option Record
-whole d = option_flatten (result_ok d)
 
 -- the kind byte tells which record it is
 abbrev pub record_in : List ℕ → Option Record
@@ -61,11 +55,7 @@ its_sender (Some (RecordKinds.Action _)) = 0
 
 -- the actions among records, in their order
 abbrev pub actions_of : List Record → List Action
-actions_of [] = []
-actions_of (RecordKinds.Header _ ∷ rs) = actions_of rs
-actions_of (RecordKinds.Section _ ∷ rs) = actions_of rs
-actions_of (RecordKinds.Interval _ ∷ rs) = actions_of rs
-actions_of (RecordKinds.Action x ∷ rs) = x ∷ actions_of rs
+actions_of = filter_map its_action
 
 -- the intervals among records, each with the article of its section
 abbrev pub intervals_of : ℕ → List Record → List (ℕ × Interval)
@@ -74,16 +64,3 @@ intervals_of a (RecordKinds.Header _ ∷ rs) = intervals_of a rs
 intervals_of a (RecordKinds.Section s ∷ rs) = intervals_of s.article rs
 intervals_of a (RecordKinds.Interval i ∷ rs) = (a, i) ∷ intervals_of a rs
 intervals_of a (RecordKinds.Action _ ∷ rs) = intervals_of a rs
-
--- where the first interval stands that passes a test, of records that begin at place at
-abbrev pub first_place : (ℕ → Interval → Bool) → ℕ → ℕ → List Record → Option ℕ
-first_place test at a [] = None
-first_place test at a (RecordKinds.Header h ∷ rs) = first_place test (at + 6) a rs
-first_place test at a (RecordKinds.Section s ∷ rs) = first_place test (at + 5) s.article rs
-first_place test at a (RecordKinds.Interval i ∷ rs) = cond (test a i) (Some at) (first_place test (at + 10) a rs)
-first_place test at a (RecordKinds.Action x ∷ rs) = first_place test (at + 16) a rs
-
--- how many bytes the record takes, where there is one
-abbrev pub size_in : Option Record → ℕ
-size_in None = 0
-size_in (Some r) = length (record_bytes r)

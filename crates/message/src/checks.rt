@@ -1,6 +1,7 @@
 ghost use Rattle.std.specs.Prelude.{◌≡◌};
 ghost use Rattle.message.specs.Checks.{Accepted, Accepts, Once, Refused, Unique};
-ghost use Rattle.message.specs.Reading.{Scanned, is_action};
+ghost use Rattle.message.specs.Reading.{is_action};
+ghost use Rattle.message.specs.Scanning.{Scanned};
 
 use crate::cursor::Reader;
 use crate::faults::ReaderFault;

@@ -1,6 +1,6 @@
 ghost use Rattle.std.specs.Prelude.{◌≡◌, ◌<◌, ◌≤◌, length, MatchResult};
 ghost use Rattle.std.specs.Array.{IsFirstChunk};
-ghost use Rattle.message.specs.Decoding.{decoded, size_of};
+ghost use Rattle.message.specs.Decoding.{decoded, size_of, whole};
 
 use crate::faults::Flaw;
 use crate::reading::Due;
@@ -20,7 +20,7 @@ fn front<const N: usize>(bytes: &[u8]) -> Result<&[u8; N], Flaw>
 #[inline(always)]
 pub(crate) fn decode(due: Due, bytes: &[u8]) -> Result<Option<Record>, Flaw>
     ensures value { result ≡ decoded due bytes.now }
-    ensures fits { size_of result ≤ length bytes.now }
+    ensures fits { size_of (whole result) ≤ length bytes.now }
 {
     let record = match (due, bytes) {
         (Due::Header, [b'H', ..]) => Record::Header(Header::from_bytes(front(bytes)?)),

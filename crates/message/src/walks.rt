@@ -1,5 +1,6 @@
 ghost use Rattle.std.specs.Prelude.{◌≡◌, ◌+◌, ◌≤◌, length, drop};
-ghost use Rattle.message.specs.Walks.{article_after, its_action, its_interval, its_sender, record_in, size_in};
+ghost use Rattle.message.specs.Decoding.{size_of};
+ghost use Rattle.message.specs.Walks.{article_after, its_action, its_interval, its_sender, record_in};
 
 use crate::decodes::decode;
 use crate::reading::Due;
@@ -11,7 +12,7 @@ use action::Action;
 #[inline(always)]
 pub fn record_at(bytes: &[u8], at: usize) -> Option<Record>
     ensures value { result ≡ record_in (drop at bytes.now) }
-    ensures fits { at ≤ length bytes.now → at + size_in result ≤ length bytes.now }
+    ensures fits { at ≤ length bytes.now → at + size_of result ≤ length bytes.now }
 {
     first_record(bytes.get(at..)?)
 }
@@ -20,7 +21,7 @@ pub fn record_at(bytes: &[u8], at: usize) -> Option<Record>
 #[inline(always)]
 fn first_record(bytes: &[u8]) -> Option<Record>
     ensures value { result ≡ record_in bytes.now }
-    ensures fits { size_in result ≤ length bytes.now }
+    ensures fits { size_of result ≤ length bytes.now }
 {
     let due = match bytes {
         [b'H', ..] => Due::Header,

@@ -9,8 +9,8 @@ use denote.Param.Members.{Mut}
 use denote.Ref.{Bor}
 use Rattle.message.specs.declared.reading.Stretch.{Stretch}
 use Rattle.message.specs.declared.records.Interval.{Interval}
-use Rattle.message.specs.Found.{stretches_in}
-use Rattle.message.specs.Walks.{first_place, records_in}
+use Rattle.message.specs.Found.{first_place, stretches_in}
+use Rattle.message.specs.Walks.{records_in}
 use Rattle.message.proofs.Yields.{first_in}
 
 -- the place of the first interval that passes a test, where the closure is that test

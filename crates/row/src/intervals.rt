@@ -1,6 +1,7 @@
 // What a message says of the times that a table has reached, judged by its rows.
 ghost use Rattle.std.specs.Prelude.{◌≡◌};
-ghost use Rattle.message.specs.Walks.{first_place, records_in};
+ghost use Rattle.message.specs.Found.{first_place};
+ghost use Rattle.message.specs.Walks.{records_in};
 ghost use Rattle.row.specs.Passes.{is_ahead_in, is_behind_in};
 
 use crate::ledgers::Ledger;

@@ -6,7 +6,8 @@ use Rattle.action.specs.Lawful.{by_history, by_table, unless}
 use Rattle.kind.specs.Meaning.{Meaning}
 use Rattle.message.specs.Format.{Message, format, records}
 use Rattle.message.specs.Lawful.{LawfulMessage}
-use Rattle.message.specs.Walks.{actions_of, first_place, records_in}
+use Rattle.message.specs.Found.{first_place}
+use Rattle.message.specs.Walks.{actions_of, records_in}
 use Rattle.message.proofs.Carried.{carried_of}
 use Rattle.message.proofs.Walking.{lawful_records}
 use Rattle.row.specs.Passes.{new_actions}

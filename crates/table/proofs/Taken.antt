@@ -17,7 +17,7 @@ use Rattle.kind.proofs.Workings.{working_placed}
 use Rattle.message.specs.declared.records.Interval.{Interval}
 use Rattle.message.specs.Format.{Message, Section, carried, records, told_intervals}
 use Rattle.message.specs.Lawful.{Carries, LawfulAction, LawfulInterval, LawfulMessage, LawfulSection}
-use Rattle.message.specs.Walks.{first_place}
+use Rattle.message.specs.Found.{first_place}
 use Rattle.message.proofs.Carried.{carried_lawful, carried_ranked, carried_within, none_found, told_intervals_lawful, told_intervals_of}
 use Rattle.row.specs.declared.rows.Row.{Row}
 use Rattle.row.specs.Entries.{at, no_row}

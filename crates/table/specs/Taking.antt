@@ -11,7 +11,7 @@ use Rattle.message.specs.Faults as ReaderFaults
 use Rattle.message.specs.Checks.{Refused}
 use Rattle.message.specs.Format.{Message, carried, format, records, told_intervals}
 use Rattle.message.specs.Lawful.{LawfulMessage}
-use Rattle.message.specs.Walks.{first_place}
+use Rattle.message.specs.Found.{first_place}
 use Rattle.row.specs.declared.rows.Row.{Row}
 use Rattle.row.specs.Passes.{is_ahead_in, is_behind_in, is_new_in, latest_to, raised_by}
 use Rattle.row.specs.Entries.{each_row}

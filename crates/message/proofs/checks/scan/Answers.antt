@@ -1,5 +1,6 @@
 use Rattle.std.proofs.Common.{◌≡◌, ℕ, true, false, Ok, count_by, sym, refl, ◌∙◌, subst, arith}
-use Rattle.message.specs.Reading.{Begun, Scanned, is_action}
+use Rattle.message.specs.Reading.{is_action}
+use Rattle.message.specs.Scanning.{Begun, Scanned}
 use Rattle.message.proofs.Steps.{begun_none, count_more, read_all, record_size}
 use Rattle.message.proofs.checks.scan.Goals as goal
 
@@ -13,7 +14,7 @@ loop-found-init g c =
       refl,
       e.bytes,
       omega arith,
-      subst (λ p. (b : Begun kind reader.setup bytes reader.at p) × (◌≡◌ {A = ℕ} 0 (count_by is_action b.records))) (sym e.progress) (subst (λ (n : ℕ). (b : Begun kind reader.setup bytes n _) × (◌≡◌ {A = ℕ} 0 (count_by is_action b.records))) (sym e.at) (start, refl)),
+      subst (λ p. (b : Begun kind reader.setup bytes reader.at p) × (◌≡◌ {A = ℕ} 0 (count_by is_action b.0))) (sym e.progress) (subst (λ (n : ℕ). (b : Begun kind reader.setup bytes n _) × (◌≡◌ {A = ℕ} 0 (count_by is_action b.0))) (sym e.at) (start, refl)),
     )
 
 pub loop-found-preserved-then-is_action : goal.loop-found-preserved-then-is_action

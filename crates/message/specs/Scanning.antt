@@ -1,0 +1,23 @@
+-- How all the bytes are read as one message. Assumes nothing.
+use Rattle.std.specs.Prelude.{◌≡◌, ℕ, List, length, drop, None, Ok, Err, count_by, Result}
+use Rattle.std.specs.List.{flat_map}
+use Rattle.action.specs.declared.setups.Setup.{Setup}
+use Rattle.kind.specs.Meaning.{Meaning}
+use Rattle.message.specs.declared.faults.ReaderFault.{ReaderFault}
+use Rattle.message.specs.declared.reading.Progress.{Progress}
+use Rattle.message.specs.declared.records.Record.{Record}
+use Rattle.message.specs.Checks.{Beginning}
+use Rattle.message.specs.Format.{record_bytes}
+use Rattle.message.specs.Reading.{is_action, step}
+
+-- the bytes before place at are a lawful beginning
+abbrev pub Begun : Meaning → Setup → List ℕ → ℕ → Progress → Type 0
+Begun kind setup bytes at p =
+    (rs : List Record) × Beginning kind setup bytes rs p (drop at bytes) × (at ≡ length (flat_map record_bytes rs))
+
+-- what reading all the bytes comes to: a whole message with so many actions, or a refusal after a lawful beginning
+abbrev pub Scanned : Meaning → Setup → List ℕ → Result ℕ ReaderFault → Type 0
+Scanned kind setup bytes (Ok n) =
+    (p : Progress) × (at : ℕ) × (b : Begun kind setup bytes at p) × (step kind setup p at (drop at bytes) ≡ Ok None) × (n ≡ count_by is_action b.0)
+Scanned kind setup bytes (Err e) =
+    (p : Progress) × (at : ℕ) × Begun kind setup bytes at p × (step kind setup p at (drop at bytes) ≡ Err e)
