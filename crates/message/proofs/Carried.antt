@@ -1,5 +1,5 @@
 -- What a message carries: its intervals and its actions, as its records have them. Assumes nothing.
-use Rattle.std.proofs.Common.{◌≡◌, ℕ, ◌+◌, ◌<◌, Bool, false, List, [], ◌∷◌, ◌++◌, map, Some, None, Option, sym, refl, ap, ◌∙◌, subst, ⊎_elim, arith}
+use Rattle.std.proofs.Common.{◌≡◌, ℕ, ◌+◌, ◌<◌, Bool, false, List, [], ◌∷◌, ◌++◌, map, length, Some, None, Option, sym, refl, ap, ◌∙◌, subst, ⊎_elim, arith}
 use Rattle.std.specs.Option.{option_map}
 use Rattle.std.specs.List.{flat_map, ContainsAt as Has, AllByRecursion}
 use Rattle.std.proofs.ByRecursion.{All-append, all-has, all_has_itself, All-map, All-weaker, has_append_left, has_append_right}
@@ -13,10 +13,10 @@ use Rattle.message.specs.declared.reading.Stretch.{Stretch}
 use Rattle.message.specs.declared.records.Interval.{Interval}
 use Rattle.message.specs.declared.records.Record.{Record}
 use Rattle.message.specs.declared.records.Record.TheVariants as RecordKinds
-use Rattle.message.specs.Format.{Message, Section, carried, records, section_records, told_intervals}
+use Rattle.message.specs.Format.{Message, Section, carried, record_bytes, records, section_records, told_intervals}
 use Rattle.message.specs.Found.{first_place}
 use Rattle.message.specs.Lawful.{Carries, LawfulAction, LawfulInterval, LawfulMessage, LawfulSection, Rising}
-use Rattle.message.specs.Walks.{actions_of, intervals_of}
+use Rattle.message.specs.Walks.{actions_of, article_after, intervals_of}
 use Rattle.message.proofs.SectionIntervals.{all_from_map}
 
 -- LISTS IN A ROW
@@ -42,9 +42,6 @@ has_map f xs x h = all-has (λ y. Has (map f xs) (f y)) xs x (all_from_map (Has 
 -- no interval passes the test where none is found that does
 pub none_found : (test : ℕ → Interval → Bool) (at a : ℕ) (rs : List Record) → first_place test at a rs ≡ None → AllByRecursion (λ h. test h.0 h.1 ≡ false) (intervals_of a rs)
 none_found test at a [] h = tt
-none_found test at a (RecordKinds.Header _ ∷ rs) h = none_found test (at + 6) a rs h
-none_found test at a (RecordKinds.Section s ∷ rs) h = none_found test (at + 5) s.article rs h
-none_found test at a (RecordKinds.Action _ ∷ rs) h = none_found test (at + 16) a rs h
 none_found test at a (RecordKinds.Interval i ∷ rs) h =
     ⊎_elim
     (λ e. absurd (let f : Some at ≡ None = sym (ap place (cond-true (test a i) (Some first) _ e)) ∙ h in cc))
@@ -56,6 +53,7 @@ none_found test at a (RecordKinds.Interval i ∷ rs) h =
 
     place : Option Stretch → Option ℕ
     place o = option_map (λ s. s.offset) o
+none_found test at a (r ∷ rs) h = none_found test (at + length (record_bytes r)) (article_after a r) rs h
 
 -- RECORDS OF ONE KIND, AND THE REST
 

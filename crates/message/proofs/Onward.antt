@@ -56,24 +56,16 @@ module _ (kind : Meaning) (setup : Setup) where
   module _ (p q : Progress) where
     pub header_on : (r : Record) → is_due Due.Header r ≡ true → admitted kind setup p r ≡ Ok q → (h : Header) × (r ≡ RecordKinds.Header h) × (named kind setup h ≡ true) × (lawful_header setup h ≡ true) × (q ≡ after_header p h)
     header_on (RecordKinds.Header h) is so = let k = passed_twice (named kind setup h) (lawful_header setup h) (after_header p h) q so in (h, refl, k.0, k.1, sym k.2)
-    header_on (RecordKinds.Section s) is so = absurd (false≢true is)
-    header_on (RecordKinds.Interval i) is so = absurd (false≢true is)
-    header_on (RecordKinds.Action x) is so = absurd (false≢true is)
+    header_on _ is so = absurd (false≢true is)
 
     pub section_on : (r : Record) → is_due Due.Section r ≡ true → admitted kind setup p r ≡ Ok q → (s : SectionHead) × (r ≡ RecordKinds.Section s) × (lawful_section setup p s ≡ true) × (q ≡ after_section p s)
-    section_on (RecordKinds.Header h) is so = absurd (false≢true is)
     section_on (RecordKinds.Section s) is so = let k = passed (lawful_section setup p s) (after_section p s) q so in (s, refl, k.0, sym k.1)
-    section_on (RecordKinds.Interval i) is so = absurd (false≢true is)
-    section_on (RecordKinds.Action x) is so = absurd (false≢true is)
+    section_on _ is so = absurd (false≢true is)
 
     pub interval_on : (r : Record) → is_due Due.Interval r ≡ true → admitted kind setup p r ≡ Ok q → (i : Interval) × (r ≡ RecordKinds.Interval i) × (lawful_interval setup p i ≡ true) × (q ≡ after_interval p i)
-    interval_on (RecordKinds.Header h) is so = absurd (false≢true is)
-    interval_on (RecordKinds.Section s) is so = absurd (false≢true is)
     interval_on (RecordKinds.Interval i) is so = let k = passed (lawful_interval setup p i) (after_interval p i) q so in (i, refl, k.0, sym k.1)
-    interval_on (RecordKinds.Action x) is so = absurd (false≢true is)
+    interval_on _ is so = absurd (false≢true is)
 
     pub action_on : (r : Record) → is_due Due.Action r ≡ true → admitted kind setup p r ≡ Ok q → (x : Action) × (r ≡ RecordKinds.Action x) × (lawful_action kind p x ≡ true) × (q ≡ after_action p x)
-    action_on (RecordKinds.Header h) is so = absurd (false≢true is)
-    action_on (RecordKinds.Section s) is so = absurd (false≢true is)
-    action_on (RecordKinds.Interval i) is so = absurd (false≢true is)
     action_on (RecordKinds.Action x) is so = let k = passed (lawful_action kind p x) (after_action p x) q so in (x, refl, k.0, sym k.1)
+    action_on _ is so = absurd (false≢true is)

@@ -37,19 +37,13 @@ flawless false o q f h = cc
 
 module _ (bs : List ℕ) where
   pub finished_told : (d : Due) → decoded d bs ≡ Ok None → (d ≡ Due.End) × (bs ≡ [])
-  finished_told Due.Header h = absurd (not_none _ (sym (flawless _ _ _ _ h).1))
-  finished_told Due.Section h = absurd (not_none _ (sym (flawless _ _ _ _ h).1))
-  finished_told Due.Interval h = absurd (not_none _ (sym (flawless _ _ _ _ h).1))
-  finished_told Due.Action h = absurd (not_none _ (sym (flawless _ _ _ _ h).1))
   finished_told Due.End h = (refl, nil_from_length bs (eqb-true _ _ (flawless _ _ _ _ h).0))
+  finished_told _ h = absurd (not_none _ (sym (flawless _ _ _ _ h).1))
 
   -- where a record is due, the flaw is that there is none; where the end is due, that bytes follow
   pub flaw_told : (d : Due) (f : Flaw) → decoded d bs ≡ Err f → (Cut ≡ f) ⊎ ((Trailing ≡ f) × (d ≡ Due.End) × (1 ≤ length bs))
-  flaw_told Due.Header f h = inl (flawed _ _ _ _ h).1
-  flaw_told Due.Section f h = inl (flawed _ _ _ _ h).1
-  flaw_told Due.Interval f h = inl (flawed _ _ _ _ h).1
-  flaw_told Due.Action f h = inl (flawed _ _ _ _ h).1
   flaw_told Due.End f h = let k = flawed _ _ _ _ h in let some : length bs ≡ 0 → ⊥ = eqb-false (length bs) 0 k.0 in inr (k.1, refl, omega arith)
+  flaw_told _ f h = inl (flawed _ _ _ _ h).1
 
   pub cut_told : (d : Due) → decoded d bs ≡ Err Cut → (d ≡ Due.End → ⊥) × ((r : Record) → is_due d r ≡ true → Fitting r → StartsWith bs r → ⊥)
   cut_told d h = (
@@ -72,10 +66,7 @@ other_flawed false p f h = cc
 
 header_due : (d : Due) (h : Header) → is_due d (RecordKinds.Header h) ≡ true → d ≡ Due.Header
 header_due Due.Header h is = refl
-header_due Due.Section h is = absurd (false≢true is)
-header_due Due.Interval h is = absurd (false≢true is)
-header_due Due.Action h is = absurd (false≢true is)
-header_due Due.End h is = absurd (false≢true is)
+header_due _ h is = absurd (false≢true is)
 
 module _ (kind : Meaning) (setup : Setup) where
   module _ (p : Progress) where
@@ -86,9 +77,7 @@ module _ (kind : Meaning) (setup : Setup) where
         (λ k. inl (k.1, (h, refl, header_due p.due h is, k.0)))
         (λ k. inr (k.1, λ g same. let e : h ≡ g = cc in ap (named kind setup) (sym e) ∙ k.0))
         (header_flawed (named kind setup h) (lawful_header setup h) (after_header p h) f so)
-    refused_told (RecordKinds.Section s) f is so = inr (other_flawed _ _ f so, λ h same. cc)
-    refused_told (RecordKinds.Interval i) f is so = inr (other_flawed _ _ f so, λ h same. cc)
-    refused_told (RecordKinds.Action x) f is so = inr (other_flawed _ _ f so, λ h same. cc)
+    refused_told _ f is so = inr (other_flawed _ _ f so, λ h same. cc)
 
     -- a step that is refused has one of the four reasons
     pub reason : (at : ℕ) (rest : List ℕ) (why : ReaderFault) → ((i : ℕ) → get_or rest i 0 < 256) → step kind setup p at rest ≡ Err why → Reason kind setup p at rest (shown why)

@@ -84,6 +84,4 @@ module _ (kind : Meaning) (setup : Setup) (bytes : List ℕ) (fits : (i : ℕ) �
 
 pub record_size : (r : Record) → 1 ≤ length (record_bytes r)
 record_size (RecordKinds.Header h) = omega arith
-record_size (RecordKinds.Section s) = omega arith
-record_size (RecordKinds.Interval i) = omega arith
-record_size (RecordKinds.Action a) = omega arith
+record_size _ = omega arith

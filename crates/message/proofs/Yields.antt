@@ -12,7 +12,7 @@ use Rattle.message.specs.declared.records.Record.{Record}
 use Rattle.message.specs.declared.records.Record.TheVariants as RecordKinds
 use Rattle.message.specs.Format.{record_bytes}
 use Rattle.message.specs.Found.{actions_among, first_place, found_from, placed, stretches_among, stretches_in, told}
-use Rattle.message.specs.Walks.{actions_of, intervals_of, its_action, next_records, record_in, records_by, records_in}
+use Rattle.message.specs.Walks.{actions_of, article_after, intervals_of, its_action, next_records, record_in, records_by, records_in}
 use Rattle.message.proofs.Walking.{records_from}
 
 -- ITERATORS THAT ARE SEEN AS WHAT THEY HAVE LEFT
@@ -36,10 +36,8 @@ actions_placed at (r ∷ rs) = ap (cons_option (its_action r)) (actions_placed (
 
 pub told_placed : (at a : ℕ) (rs : List Record) → map told (stretches_among a (placed at rs)) ≡ intervals_of a rs
 told_placed at a [] = refl
-told_placed at a (RecordKinds.Header _ ∷ rs) = told_placed (at + 6) a rs
-told_placed at a (RecordKinds.Section s ∷ rs) = told_placed (at + 5) s.article rs
 told_placed at a (RecordKinds.Interval i ∷ rs) = ap (λ is. (a, i) ∷ is) (told_placed (at + 10) a rs)
-told_placed at a (RecordKinds.Action _ ∷ rs) = told_placed (at + 16) a rs
+told_placed at a (r ∷ rs) = told_placed (at + length (record_bytes r)) (article_after a r) rs
 
 -- the place that `find` over a message's intervals answers, in the form in which std's lemma on `find` says what it found
 pub first_in : (test : ℕ → Interval → Bool) (bytes : List ℕ) (r : Option Stretch) → option_map (λ s. s) r ≡ find (λ s. test s.article s.interval) (stretches_in bytes) → option_map (λ s. s.offset) r ≡ first_place test 0 0 (records_in bytes)
@@ -65,14 +63,10 @@ few_placed at (r ∷ rs) = ap suc (few_placed (at + length (record_bytes r)) rs)
 
 pub few_actions : (rs : List Record) → length (actions_of rs) ≤ length rs
 few_actions [] = omega arith
-few_actions (RecordKinds.Header _ ∷ rs) = omega (arith, few_actions rs)
-few_actions (RecordKinds.Section _ ∷ rs) = omega (arith, few_actions rs)
-few_actions (RecordKinds.Interval _ ∷ rs) = omega (arith, few_actions rs)
 few_actions (RecordKinds.Action _ ∷ rs) = omega (arith, few_actions rs)
+few_actions (_ ∷ rs) = omega (arith, few_actions rs)
 
 pub few_stretches : (at a : ℕ) (rs : List Record) → length (stretches_among a (placed at rs)) ≤ length rs
 few_stretches at a [] = omega arith
-few_stretches at a (RecordKinds.Header _ ∷ rs) = omega (arith, few_stretches (at + 6) a rs)
-few_stretches at a (RecordKinds.Section s ∷ rs) = omega (arith, few_stretches (at + 5) s.article rs)
 few_stretches at a (RecordKinds.Interval _ ∷ rs) = omega (arith, few_stretches (at + 10) a rs)
-few_stretches at a (RecordKinds.Action _ ∷ rs) = omega (arith, few_stretches (at + 16) a rs)
+few_stretches at a (r ∷ rs) = omega (arith, few_stretches (at + length (record_bytes r)) (article_after a r) rs)

@@ -42,24 +42,13 @@ Next kind setup p at bytes (Err e) q to = (step kind setup p at (drop at bytes) 
 
 -- LISTS OF RECORDS
 
+-- is the record of the kind due? None is where the end is due
 abbrev pub is_due : Due → Record → Bool
 is_due Due.Header (RecordKinds.Header _) = true
-is_due Due.Header (RecordKinds.Section _) = false
-is_due Due.Header (RecordKinds.Interval _) = false
-is_due Due.Header (RecordKinds.Action _) = false
-is_due Due.Section (RecordKinds.Header _) = false
 is_due Due.Section (RecordKinds.Section _) = true
-is_due Due.Section (RecordKinds.Interval _) = false
-is_due Due.Section (RecordKinds.Action _) = false
-is_due Due.Interval (RecordKinds.Header _) = false
-is_due Due.Interval (RecordKinds.Section _) = false
 is_due Due.Interval (RecordKinds.Interval _) = true
-is_due Due.Interval (RecordKinds.Action _) = false
-is_due Due.Action (RecordKinds.Header _) = false
-is_due Due.Action (RecordKinds.Section _) = false
-is_due Due.Action (RecordKinds.Interval _) = false
 is_due Due.Action (RecordKinds.Action _) = true
-is_due Due.End _ = false
+is_due _ _ = false
 
 -- the progress after one more record, where it is due and lawful
 abbrev pub onward : Meaning → Setup → Option Progress → Record → Option Progress

@@ -28,30 +28,21 @@ records_in bs = records_by (length bs) bs
 
 -- the article that records are about after this one: a section's head names it
 abbrev pub article_after : ℕ → Record → ℕ
-article_after a (RecordKinds.Header _) = a
 article_after a (RecordKinds.Section s) = s.article
-article_after a (RecordKinds.Interval _) = a
-article_after a (RecordKinds.Action _) = a
+article_after a _ = a
 
 abbrev pub its_interval : Record → Option Interval
-its_interval (RecordKinds.Header _) = None
-its_interval (RecordKinds.Section _) = None
 its_interval (RecordKinds.Interval i) = Some i
-its_interval (RecordKinds.Action _) = None
+its_interval _ = None
 
 abbrev pub its_action : Record → Option Action
-its_action (RecordKinds.Header _) = None
-its_action (RecordKinds.Section _) = None
-its_action (RecordKinds.Interval _) = None
 its_action (RecordKinds.Action x) = Some x
+its_action _ = None
 
 -- who sent the message that begins with this record
 abbrev pub its_sender : Option Record → ℕ
-its_sender None = 0
 its_sender (Some (RecordKinds.Header h)) = h.sender
-its_sender (Some (RecordKinds.Section _)) = 0
-its_sender (Some (RecordKinds.Interval _)) = 0
-its_sender (Some (RecordKinds.Action _)) = 0
+its_sender _ = 0
 
 -- the actions among records, in their order
 abbrev pub actions_of : List Record → List Action
@@ -60,7 +51,5 @@ actions_of = filter_map its_action
 -- the intervals among records, each with the article of its section
 abbrev pub intervals_of : ℕ → List Record → List (ℕ × Interval)
 intervals_of a [] = []
-intervals_of a (RecordKinds.Header _ ∷ rs) = intervals_of a rs
-intervals_of a (RecordKinds.Section s ∷ rs) = intervals_of s.article rs
 intervals_of a (RecordKinds.Interval i ∷ rs) = (a, i) ∷ intervals_of a rs
-intervals_of a (RecordKinds.Action _ ∷ rs) = intervals_of a rs
+intervals_of a (r ∷ rs) = intervals_of (article_after a r) rs
