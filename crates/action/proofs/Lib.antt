@@ -1,5 +1,5 @@
-pub mod Apartness
 pub mod Members
+pub mod Pairs
 pub mod Placing
 pub mod Precedence
 pub mod Ranks

@@ -10,7 +10,7 @@ use Rattle.action.specs.Order.{Apart, Ascending, Distinct, Leads, in_order, plac
 use Rattle.action.proofs.Members.{all_append_parts, all_from_has, has_append_cases, has_cons_cases, has_first, has_later, has_none}
 use Rattle.action.proofs.Precedence.{precedes_trans}
 use Rattle.action.proofs.Ranks.{AllRanked, Ranked, apart_ranked, distinct_ranked, ranked_else, ranked_sym}
-use Rattle.action.proofs.Sequence.{ascending_parts, ascending_together, leads_from_all}
+use Rattle.action.proofs.Sequence.{ascending_parts, ascending_together}
 
 -- THE PLACE
 
@@ -121,7 +121,7 @@ placed_ranked xs x up ranked =
     let parts = ascending_parts g.before g.after (subst Ascending g.whole up) in
     let behind = (all_append_parts (Ranked x) g.before g.after (subst (AllByRecursion (Ranked x)) g.whole ranked)).1 in
     let earlier : AllByRecursion (λ y. precedes y x ≡ true) g.before = all_precede x g.before parts.0 g.last in
-    let leads : Leads x g.after = leads_from_all x g.after (others g.after behind g.none_after) in
+    let leads : Leads x g.after = others g.after behind g.none_after in
     subst Ascending (sym g.put) (ascending_together g.before (x ∷ g.after) parts.0 (leads, parts.1) (both g.after g.before earlier parts.2))
   where
     others : (ys : List Action) → AllByRecursion (Ranked x) ys → AllByRecursion (λ y. precedes y x ≡ false) ys → AllByRecursion (λ y. precedes x y ≡ true) ys

@@ -6,32 +6,17 @@ use Rattle.std.proofs.lemmas.Bool.{cases_lt, le-leb, lt-leb}
 use Rattle.action.specs.declared.orders.Action.{Action}
 use Rattle.action.specs.Order.{Ascending, Leads, precedes}
 use Rattle.action.proofs.Members.{has_cons_cases, has_first, has_later, has_none, kept_by_none}
+use Rattle.action.proofs.Pairs.{pairwise_append, pairwise_kept, pairwise_parts}
 use Rattle.action.proofs.Precedence.{not_later, precedes_asymmetric, precedes_by_time, precedes_irreflexive, precedes_trans}
 
 -- ONE BEFORE OTHERS
 
-pub leads_from_all : (x : Action) (ys : List Action) → AllByRecursion (λ y. precedes x y ≡ true) ys → Leads x ys
-leads_from_all x [] h = tt
-leads_from_all x (y ∷ ys) h = (h.0, leads_from_all x ys h.1)
-
-pub all_from_leads : (x : Action) (ys : List Action) → Leads x ys → AllByRecursion (λ y. precedes x y ≡ true) ys
-all_from_leads x [] h = tt
-all_from_leads x (y ∷ ys) h = (h.0, all_from_leads x ys h.1)
-
 pub leads_has : (x : Action) (ys : List Action) (y : Action) → Leads x ys → Has ys y → precedes x y ≡ true
-leads_has x ys y h k = all-has (λ z. precedes x z ≡ true) ys y (all_from_leads x ys h) k
+leads_has x ys y h k = all-has (λ z. precedes x z ≡ true) ys y h k
 
 pub leads_through : (x y : Action) (zs : List Action) → precedes x y ≡ true → Leads y zs → Leads x zs
 leads_through x y [] h k = tt
 leads_through x y (z ∷ zs) h k = (precedes_trans x y z h k.0, leads_through x y zs h k.1)
-
-pub leads_append : (x : Action) (ys zs : List Action) → Leads x ys → Leads x zs → Leads x (ys ++ zs)
-leads_append x [] zs h k = k
-leads_append x (y ∷ ys) zs h k = (h.0, leads_append x ys zs h.1 k)
-
-pub leads_append_parts : (x : Action) (ys zs : List Action) → Leads x (ys ++ zs) → Leads x ys × Leads x zs
-leads_append_parts x [] zs h = (tt, h)
-leads_append_parts x (y ∷ ys) zs h = let more = leads_append_parts x ys zs h.1 in ((h.0, more.0), more.1)
 
 pub leads_later : (c : ℕ) (x : Action) (ys : List Action) → x.time ≤ c → AllByRecursion (λ y. c < y.time) ys → Leads x ys
 leads_later c x [] h k = tt
@@ -40,36 +25,18 @@ leads_later c x (y ∷ ys) h k = (precedes_by_time x y (omega (arith, k.0)), lea
 -- PARTS
 
 pub ascending_parts : (xs ys : List Action) → Ascending (xs ++ ys) → Ascending xs × Ascending ys × AllByRecursion (λ x. Leads x ys) xs
-ascending_parts [] ys h = (tt, h, tt)
-ascending_parts (x ∷ xs) ys h =
-    let first = leads_append_parts x xs ys h.0 in
-    let more = ascending_parts xs ys h.1 in
-    ((first.0, more.0), more.1, (first.1, more.2))
+ascending_parts = pairwise_parts (λ x y. precedes x y ≡ true)
 
 pub ascending_together : (xs ys : List Action) → Ascending xs → Ascending ys → AllByRecursion (λ x. Leads x ys) xs → Ascending (xs ++ ys)
-ascending_together [] ys a b h = b
-ascending_together (x ∷ xs) ys a b h = (leads_append x xs ys a.0 h.0, ascending_together xs ys a.1 b h.1)
+ascending_together = pairwise_append (λ x y. precedes x y ≡ true)
 
 -- what is at most c comes before what is later
 pub ascending_append : (c : ℕ) (xs ys : List Action) → AllByRecursion (λ x. x.time ≤ c) xs → AllByRecursion (λ y. c < y.time) ys → Ascending xs → Ascending ys → Ascending (xs ++ ys)
 ascending_append c xs ys h k a b = ascending_together xs ys a b (All-weaker (λ x. x.time ≤ c) (λ x. Leads x ys) (λ x le. leads_later c x ys le k) xs h)
 
 -- a part of a list in order is in order
-leads_kept : (p : Action → Bool) (x : Action) (ys : List Action) → Leads x ys → Leads x (filter p ys)
-leads_kept p x [] h = tt
-leads_kept p x (y ∷ ys) h = by_test (leads_kept p x ys h.1) (p y)
-  where
-    by_test : Leads x (filter p ys) → (b : Bool) → Leads x (cond b (y ∷ filter p ys) (filter p ys))
-    by_test rest true = (h.0, rest)
-    by_test rest false = rest
-
 pub ascending_kept : (p : Action → Bool) (xs : List Action) → Ascending xs → Ascending (filter p xs)
-ascending_kept p [] h = tt
-ascending_kept p (x ∷ xs) h = by_test (ascending_kept p xs h.1) (p x)
-  where
-    by_test : Ascending (filter p xs) → (b : Bool) → Ascending (cond b (x ∷ filter p xs) (filter p xs))
-    by_test rest true = (leads_kept p x xs h.0, rest)
-    by_test rest false = rest
+ascending_kept = pairwise_kept (λ x y. precedes x y ≡ true)
 
 -- MEMBERS
 
@@ -116,5 +83,5 @@ split_at t (x ∷ xs) h = let rest = split_at t xs h.1 in ⊎_elim (later rest) 
 
     later : xs ≡ soon ++ late → t < x.time → x ∷ xs ≡ by_test (leb x.time t)
     later rest lt =
-        let none : soon ≡ [] = kept_by_none (λ y. leb y.time t) xs (All-weaker (λ y. precedes x y ≡ true) (λ y. leb y.time t ≡ false) (λ y after. lt-leb y.time t (omega (arith, not_later x y after))) xs (all_from_leads x xs h.0)) in
+        let none : soon ≡ [] = kept_by_none (λ y. leb y.time t) xs (All-weaker (λ y. precedes x y ≡ true) (λ y. leb y.time t ≡ false) (λ y after. lt-leb y.time t (omega (arith, not_later x y after))) xs h.0) in
         ap (λ l. x ∷ l) (rest ∙ ap (λ l. l ++ late) none) ∙ ap (λ l. l ++ x ∷ late) (sym none) ∙ ap by_test (sym (lt-leb x.time t lt))

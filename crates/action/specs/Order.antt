@@ -8,15 +8,18 @@ abbrev pub precedes : Action → Action → Bool
 precedes a b =
     nat_lt a.time b.time || (a.time == b.time && (nat_lt a.coordinator b.coordinator || (a.coordinator == b.coordinator && nat_lt a.article b.article)))
 
+-- R holds of each and all that follow it
+abbrev pub Pairwise : {X : Type 0} → (X → X → Type 0) → List X → Type 0
+Pairwise R [] = Unit {0}
+Pairwise R (x ∷ xs) = AllByRecursion (R x) xs × Pairwise R xs
+
 -- x precedes each of the list
 abbrev pub Leads : Action → List Action → Type 0
-Leads x [] = Unit {0}
-Leads x (y ∷ ys) = (precedes x y ≡ true) × Leads x ys
+Leads x ys = AllByRecursion (λ y. precedes x y ≡ true) ys
 
 -- strictly ascending: each precedes all that follow it
 abbrev pub Ascending : List Action → Type 0
-Ascending [] = Unit {0}
-Ascending (x ∷ xs) = Leads x xs × Ascending xs
+Ascending xs = Pairwise (λ x y. precedes x y ≡ true) xs
 
 -- not of the same coordinator and time
 abbrev pub Apart : Action → Action → Type 0
@@ -24,8 +27,7 @@ Apart x y = (x.coordinator ≡ y.coordinator) → (x.time ≡ y.time) → ⊥
 
 -- each is apart from all that follow it
 abbrev pub Distinct : List Action → Type 0
-Distinct [] = Unit {0}
-Distinct (x ∷ xs) = AllByRecursion (Apart x) xs × Distinct xs
+Distinct xs = Pairwise Apart xs
 
 -- the place behind the last one that precedes the action
 abbrev pub place_of : List Action → Action → ℕ

@@ -7,7 +7,8 @@ use Rattle.std.proofs.lemmas.Bool.{cases_Bool, cond-false, cond-true}
 use Rattle.action.specs.declared.orders.Action.{Action}
 use Rattle.action.specs.declared.setups.Setup.{Setup}
 use Rattle.action.proofs.Members.{has_cons_cases, has_first, has_later, has_none}
-use Rattle.action.proofs.Ranks.{AllRanked, Ranked, ascending_ranked, ranked_append, ranked_unless}
+use Rattle.action.proofs.Pairs.{pairwise_append}
+use Rattle.action.proofs.Ranks.{AllRanked, Ranked, ascending_ranked, ranked_unless}
 use Rattle.kind.specs.Meaning.{Meaning}
 use Rattle.message.specs.declared.reading.Stretch.{Stretch}
 use Rattle.message.specs.declared.records.Interval.{Interval}
@@ -122,7 +123,7 @@ module _ (kind : Meaning) (setup : Setup) (m : Message) (l : LawfulMessage kind 
 sections_ranked : (kind : Meaning) (setup : Setup) (ss : List Section) → AllByRecursion (LawfulSection kind setup) ss → Rising (map (λ s. s.article) ss) → AllRanked (flat_map (λ s. s.actions) ss)
 sections_ranked kind setup [] lawful rising = tt
 sections_ranked kind setup (s ∷ ss) lawful rising =
-    ranked_append s.actions (flat_map (λ s. s.actions) ss) (ascending_ranked s.actions lawful.0.ordered) (sections_ranked kind setup ss lawful.1 rising.1) (All-weaker (LawfulAction kind s) (λ x. AllByRecursion (Ranked x) (flat_map (λ s. s.actions) ss)) (λ x here.
+    pairwise_append Ranked s.actions (flat_map (λ s. s.actions) ss) (ascending_ranked s.actions lawful.0.ordered) (sections_ranked kind setup ss lawful.1 rising.1) (All-weaker (LawfulAction kind s) (λ x. AllByRecursion (Ranked x) (flat_map (λ s. s.actions) ss)) (λ x here.
     All-weaker (λ y. s.article < y.article) (Ranked x) (λ y there. ranked_unless x y (λ _ _ same. omega (arith, same, here.on_article))) (flat_map (λ s. s.actions) ss) later) s.actions lawful.0.actions)
   where
     later : AllByRecursion (λ y. s.article < y.article) (flat_map (λ s. s.actions) ss)

@@ -1,10 +1,10 @@
 -- Which messages a table of a set-up and a kind can read. Assumes nothing.
-use Rattle.std.specs.Prelude.{◌≡◌, ℕ, ◌<◌, ◌≤◌, true, List, [], ◌∷◌, map, length, sum_by, FitsSigned}
+use Rattle.std.specs.Prelude.{◌≡◌, ℕ, ◌<◌, ◌≤◌, true, List, map, length, sum_by, FitsSigned}
 use Rattle.std.specs.Int.{w32}
 use Rattle.std.specs.List.{ContainsAt as Has, AllByRecursion}
 use Rattle.action.specs.declared.orders.Action.{Action}
 use Rattle.action.specs.declared.setups.Setup.{Setup}
-use Rattle.action.specs.Order.{Ascending}
+use Rattle.action.specs.Order.{Ascending, Pairwise}
 use Rattle.kind.specs.Meaning.{Meaning}
 use Rattle.kind.specs.Working.{knows_action}
 use Rattle.message.specs.declared.records.Interval.{Interval}
@@ -12,8 +12,7 @@ use Rattle.message.specs.Format.{Message, Section}
 
 -- strictly ascending numbers
 abbrev pub Rising : List ℕ → Type 0
-Rising [] = Unit {0}
-Rising (x ∷ xs) = AllByRecursion (λ y. x < y) xs × Rising xs
+Rising xs = Pairwise (λ x y. x < y) xs
 
 pub record LawfulInterval (setup : Setup) (i : Interval) : Type 0 where
   pub of_group : i.site < setup.sites

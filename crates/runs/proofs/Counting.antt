@@ -4,8 +4,8 @@ use Rattle.std.specs.List.{ContainsAt as Has}
 use Rattle.std.proofs.ByRecursion.{all-has, All-weaker}
 use Rattle.std.proofs.lemmas.Bool.{and_from, and_parts, eq-eqb, eqb-true, le-leb, leb-true, ltb-false}
 use Rattle.action.specs.declared.orders.Action.{Action}
-use Rattle.action.specs.Order.{in_order}
-use Rattle.action.proofs.Apartness.{distinct_kept}
+use Rattle.action.specs.Order.{Apart, in_order}
+use Rattle.action.proofs.Pairs.{pairwise_kept}
 use Rattle.action.proofs.Members.{has_kept_by, has_kept_by_parts}
 use Rattle.action.proofs.Placing.{has_in_order, in_order_ascending, in_order_has}
 use Rattle.action.proofs.Sequence.{ascending_same}
@@ -42,7 +42,7 @@ module _ (kind : Meaning) (group : Group) (b : Book) (l : Account group b) (s : 
   -- what was archived and what the history holds is just what the book says that the site has, in order
   all_of_it : g.archived ++ on a v.history ≡ in_order (filter has_it b.committed)
   all_of_it =
-      ascending_same (g.archived ++ on a v.history) (in_order (filter has_it b.committed)) g.ordered (in_order_ascending (filter has_it b.committed) (distinct_kept has_it b.committed l.distinct))
+      ascending_same (g.archived ++ on a v.history) (in_order (filter has_it b.committed)) g.ordered (in_order_ascending (filter has_it b.committed) (pairwise_kept Apart has_it b.committed l.distinct))
       (λ x h. let r = g.sure x h in has_in_order (filter has_it b.committed) x (has_kept_by has_it b.committed x r.0 (passes x r)))
       (λ x h. let k = has_kept_by_parts has_it b.committed x (in_order_has (filter has_it b.committed) x h) in g.whole x (passed x k.0 k.1))
 

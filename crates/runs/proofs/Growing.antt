@@ -5,7 +5,7 @@ use Rattle.std.proofs.ByRecursion.{All-append, all-has, All-weaker, has_append_l
 use Rattle.std.proofs.lemmas.Bool.{cases_eq}
 use Rattle.action.specs.declared.orders.Action.{Action}
 use Rattle.action.specs.Order.{Apart, Distinct}
-use Rattle.action.proofs.Apartness.{distinct_append}
+use Rattle.action.proofs.Pairs.{pairwise_append}
 use Rattle.action.proofs.Members.{all_from_has, has_append_cases}
 use Rattle.kind.specs.Meaning.{Meaning}
 use Rattle.message.specs.declared.records.Interval.{Interval}
@@ -81,7 +81,7 @@ module _ (kind : Meaning) (group : Group) (s : ℕ) (of_group : s < group.sites)
 
   pub account_after : Account group after
   account_after = record {
-    distinct = subst Distinct (sym g.adds) (distinct_append b.committed g.new l.distinct g.apart (All-weaker (Recorded group b) (λ x. AllByRecursion (Apart x) g.new) (λ x old. All-weaker (New group s b after) (Apart x) (λ y new. all_apart x y old new) g.new g.each) b.committed l.each));
+    distinct = subst Distinct (sym g.adds) (pairwise_append Apart b.committed g.new l.distinct g.apart (All-weaker (Recorded group b) (λ x. AllByRecursion (Apart x) g.new) (λ x old. All-weaker (New group s b after) (Apart x) (λ y new. all_apart x y old new) g.new g.each) b.committed l.each));
     each = subst (AllByRecursion (Recorded group after)) (sym g.adds) (All-append (Recorded group after) b.committed g.new (All-weaker (Recorded group b) (Recorded group after) still_recorded b.committed l.each) (All-weaker (New group s b after) (Recorded group after) newly_recorded g.new g.each));
     no_more = λ z a q zl al ql.
         ⊎_elim

@@ -11,7 +11,7 @@ use Rattle.action.specs.Order.{Ascending, Leads, precedes}
 use Rattle.action.proofs.Members.{all_from_has, has_append_cases, has_kept_by, has_kept_by_parts}
 use Rattle.action.proofs.Placing.{has_folded_placed, has_folded_placed_cases}
 use Rattle.action.proofs.Precedence.{precedes_by_time}
-use Rattle.action.proofs.Sequence.{ascending_kept, ascending_parts, ascending_together, leads_from_all, leads_has}
+use Rattle.action.proofs.Sequence.{ascending_kept, ascending_parts, ascending_together, leads_has}
 use Rattle.kind.specs.Meaning.{Meaning}
 use Rattle.kind.specs.Working.{on}
 use Rattle.message.specs.declared.records.Interval.{Interval}
@@ -174,7 +174,7 @@ module _ (kind : Meaning) (group : Group) (s : ℕ) (b : Book) (v : View) (m : M
     ordered : Ascending (g.archived ++ on a w.history)
     ordered =
         ascending_together g.archived (on a w.history) (ascending_parts g.archived (on a v.history) g.ordered).0 (ascending_kept (λ x. eqb x.article a) w.history sound.ordered) (all_from_has (λ x. Leads x (on a w.history)) g.archived (λ x hx.
-        leads_from_all x (on a w.history) (all_from_has (λ y. precedes x y ≡ true) (on a w.history) (archived_first x hx))))
+        all_from_has (λ y. precedes x y ≡ true) (on a w.history) (archived_first x hx)))
 
     sure : (x : Action) → Has (g.archived ++ on a w.history) x → Reached after s a x
     sure x h = ⊎_elim old held (has_append_cases g.archived (on a w.history) x h)

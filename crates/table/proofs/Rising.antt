@@ -1,8 +1,9 @@
 -- Numbers in strictly ascending order. Assumes nothing.
-use Rattle.std.proofs.Common.{◌≡◌, ℕ, zero, suc, ◌+◌, ◌<◌, ◌≤◌, Bool, true, false, cond, List, [], ◌∷◌, map, filter, refl, ◌∙◌, arith}
+use Rattle.std.proofs.Common.{◌≡◌, ℕ, zero, suc, ◌+◌, ◌<◌, ◌≤◌, Bool, List, [], ◌∷◌, map, filter, refl, ◌∙◌, arith}
 use Rattle.std.specs.List.{range_with_len, ContainsAt as Has, AllByRecursion}
 use Rattle.std.proofs.lemmas.List.FromFn.{get_or-range_with_len, length-range_with_len}
-use Rattle.std.proofs.ByRecursion.{all_kept_by, All-weaker}
+use Rattle.std.proofs.ByRecursion.{All-weaker}
+use Rattle.action.proofs.Pairs.{pairwise_kept}
 use Rattle.message.specs.Lawful.{Rising}
 use Rattle.message.proofs.Carried.{has_map}
 
@@ -22,12 +23,7 @@ rising_counting a zero = tt
 rising_counting a (suc n) = (All-weaker (λ y. a + 1 ≤ y) (λ y. a < y) (λ y h. omega (arith, h)) (range_with_len (a + 1) n) (counting_ge (a + 1) n), rising_counting (a + 1) n)
 
 pub rising_kept : (p : ℕ → Bool) (xs : List ℕ) → Rising xs → Rising (filter p xs)
-rising_kept p [] h = tt
-rising_kept p (x ∷ xs) h = by_test (rising_kept p xs h.1) (p x)
-  where
-    by_test : Rising (filter p xs) → (b : Bool) → Rising (cond b (x ∷ filter p xs) (filter p xs))
-    by_test rest true = (all_kept_by p (λ y. x < y) xs h.0, rest)
-    by_test rest false = rest
+rising_kept = pairwise_kept (λ x y. x < y)
 
 -- a function that is undone
 pub map_back : {X Y : Type 0} (f : X → Y) (g : Y → X) → ((x : X) → g (f x) ≡ x) → (xs : List X) → map g (map f xs) ≡ xs

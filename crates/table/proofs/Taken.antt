@@ -10,7 +10,8 @@ use Rattle.action.specs.declared.setups.Setup.{Setup}
 use Rattle.action.specs.Lawful.{by_history, unless}
 use Rattle.action.specs.Order.{Ascending}
 use Rattle.action.proofs.Placing.{folded_placed_all, folded_placed_ranked, length_folded_placed}
-use Rattle.action.proofs.Ranks.{Ranked, ranked_kept, ranked_unless}
+use Rattle.action.proofs.Pairs.{pairwise_kept}
+use Rattle.action.proofs.Ranks.{Ranked, ranked_unless}
 use Rattle.kind.specs.Meaning.{Meaning}
 use Rattle.kind.specs.Working.{knows_action, on, working}
 use Rattle.kind.proofs.Workings.{working_placed}
@@ -176,7 +177,7 @@ module _ (kind : Meaning) (v : View) (m : Message) (s : Sound kind v) (l : Lawfu
       All-weaker (λ y. y.time ≤ entry v y.article own y.coordinator) (Ranked x) (λ y below. ranked_unless x y (λ c t a. let same : entry v x.article own x.coordinator ≡ entry v y.article own y.coordinator = (λ i. entry v (a i) own (c i)) in omega (arith, above, below, t, same))) v.history s.reached) (news v m) news_above
 
   pub taken_ordered : Ascending (taken_history v m)
-  taken_ordered = folded_placed_ranked v.history (news v m) s.ordered (ranked_kept (is_new v) (carried m) (carried_ranked kind v.setup m l)) among
+  taken_ordered = folded_placed_ranked v.history (news v m) s.ordered (pairwise_kept Ranked (is_new v) (carried m) (carried_ranked kind v.setup m l)) among
 
 -- SOUNDNESS
 
