@@ -1,9 +1,9 @@
 ghost use Rattle.std.specs.Prelude.{◌≡◌};
 ghost use Rattle.action.specs.Order.{precedes};
 
-// One movement: who committed it and when, the transaction that it belongs to (by the time of that
-// transaction's first action), and what it does to which article. The operation is a number here, since
-// it is each kind that says which ones it knows.
+// A change of an article's figure: who committed it and when, the transaction that it belongs to (by the
+// time of that transaction's first action), the article, and the pair that changes it. The operation is a
+// number here, since it is each kind that says which ones it knows.
 #[derive(Clone, Copy, Debug, Default, PartialEq, Eq)]
 pub struct Action {
     pub coordinator: u8,

@@ -10,7 +10,7 @@ use crate::interface::Kind;
 pub struct Flags;
 
 impl Flags {
-    // The operation that switches flags on, those of the amount. An enum of this one would say no more.
+    // The one operation, by the number that actions have for it: it switches on the flags of the amount.
     pub const SWITCH_ON: u8 = 1;
 }
 

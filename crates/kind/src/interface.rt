@@ -38,17 +38,25 @@ pub trait Kind {
     fn is_commuting() -> bool
         ensures { result ≡ means.commutes };
 
+    // The laws, which the author of a kind proves. Those of the pairs are asked of every operation and every
+    // amount, also of those that no action can hold.
+
+    // The constants are the number and the start figure that the kind means.
     ghost numbered: { KIND_NUMBER ≡ means.number };
 
     ghost starting: { START_FIGURE ≡ means.starts };
 
+    // The number fits the one byte that a message has for it.
     ghost number_fits: { means.number ≤ 255 };
 
+    // The start figure fits 64 bits, and a step leads from such a figure to such a one.
     ghost start_fits: { FitsSigned w64 means.starts };
 
     ghost step_fits: { (f : ℤ) (o : ℕ) (a : ℤ) → FitsSigned w64 f → FitsSigned w64 (means.steps f o a) };
 
+    // A pair that the kind does not know leaves the figure as it is.
     ghost unknown_leaves: { (f : ℤ) (o : ℕ) (a : ℤ) → means.knows o a ≡ false → means.steps f o a ≡ f };
 
+    // If the kind says that it commutes, two known pairs lead to the same figure whichever comes first.
     ghost commute: { (f : ℤ) (o : ℕ) (a : ℤ) (p : ℕ) (b : ℤ) → FitsSigned w64 f → means.commutes ≡ true → means.knows o a ≡ true → means.knows p b ≡ true → means.steps (means.steps f o a) p b ≡ means.steps (means.steps f p b) o a };
 }

@@ -10,7 +10,7 @@ use crate::interface::Kind;
 pub struct OnHand;
 
 impl OnHand {
-    // The operation that adds the amount. An enum of this one would say no more.
+    // The one operation, by the number that actions have for it: it adds the amount.
     pub const ADD: u8 = 1;
 }
 

@@ -14,7 +14,7 @@ pub enum Due {
     End,
 }
 
-// The times that an interval carries: above `from` and up to `to`. Where both are 0 it carries none.
+// The times that an interval carries: above `from` and up to `to`. Where they are equal it carries none.
 #[derive(Clone, Copy, Debug, Default, PartialEq, Eq)]
 pub struct Span {
     pub from: u32,

@@ -38,8 +38,8 @@ impl Header {
     }
 }
 
-// The rules for the next record, after those before it. The set-up is lent to them and no field: each
-// rule would have to say that it stays.
+// The rules for the next record, after those before it. The set-up is lent to each rule. As a field of
+// `Progress` it would be one more thing that each contract has to say the same of.
 impl Progress {
     fn is_lawful_section(&self, setup: &Setup, head: &SectionHead) -> bool
         ensures { result ≡ lawful_section setup.now self.now head.now }
@@ -76,7 +76,7 @@ impl Progress {
             && K::is_known(action.operation, action.amount)
     }
 
-    // One for each record, all with one clause, and so with one kind and set-up, which some have no need of.
+    // One for each case of `Record`. Their clauses are the same, so each has a kind and a set-up, used or not.
     fn admit_header<K: Kind>(&mut self, setup: &Setup, header: &Header) -> Result<(), Flaw>
         ensures { Admits K.means setup.now self.old (HeaderRecord header.now) result self.new }
     {
