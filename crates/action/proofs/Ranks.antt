@@ -19,7 +19,7 @@ pub ranked_sym : (x y : Action) → Ranked x y → Ranked y x
 ranked_sym x y = ⊎_elim (λ h. inr h) (λ h. inl h)
 
 pub ranked_else : (x y : Action) → Ranked x y → precedes y x ≡ false → precedes x y ≡ true
-ranked_else x y ranked no-earlier = ⊎_elim (λ h. h) (λ h. absurd (true≢false (sym h ∙ no-earlier))) ranked
+ranked_else x y ranked no_earlier = ⊎_elim (λ h. h) (λ h. absurd (true≢false (sym h ∙ no_earlier))) ranked
 
 pub ranked_unless : (x y : Action) → ((x.coordinator ≡ y.coordinator) → (x.time ≡ y.time) → (x.article ≡ y.article) → ⊥) → Ranked x y
 ranked_unless x y other =

@@ -28,9 +28,9 @@ held_high : (f : ℤ) → held f ≤ℤ highest
 held_high f = omega (arith, ints, clamps)
 
 -- h is the figure f held, and t the thousandths
-module _ (f h t : ℤ) (f-fits : SFits w64 f) (h_fits : SFits w64 h) (t-fits : SFits w64 t) (t-low : neg_ℤ (pos 500) ≤ℤ t) (t-high : t ≤ℤ pos 500) (by-held : h ≡ held (bits f)) where
+module _ (f h t : ℤ) (f_fits : SFits w64 f) (h_fits : SFits w64 h) (t_fits : SFits w64 t) (t_low : neg_ℤ (pos 500) ≤ℤ t) (t_high : t ≤ℤ pos 500) (by_held : h ≡ held (bits f)) where
   is_held : h ≡ held f
-  is_held = simp to_z-of_z at by-held
+  is_held = simp to_z-of_z at by_held
 
   factor_fits : SFits w64 (pos 1000 +ℤ t)
   factor_fits = omega (arith, ints)
@@ -43,9 +43,9 @@ module _ (f h t : ℤ) (f-fits : SFits w64 f) (h_fits : SFits w64 h) (t-fits : S
   product_fits = let factor = factor_fits in simp to_z-of_z whole_product
 
   pub raised_is : (r : ℤ) → SFits w64 r → r ≡ int_min (bits (quot_z (bits (bits h *ℤ bits (pos 1000 +ℤ bits t))) (pos 1000))) highest → bits r ≡ raised f t
-  raised_is r r-fits by-min =
+  raised_is r r_fits by_min =
       let factor = factor_fits in
       let product = whole_product in
       let quotient = quotient_of (h *ℤ (pos 1000 +ℤ t)) product in
-      let is-least : r ≡ int_min (quot_z (h *ℤ (pos 1000 +ℤ t)) (pos 1000)) highest = simp to_z-of_z at by-min in
-      to_z-of_z w64 r r-fits ∙ is-least ∙ ap (λ z. int_min (quot_z (z *ℤ (pos 1000 +ℤ t)) (pos 1000)) highest) is_held
+      let is_least : r ≡ int_min (quot_z (h *ℤ (pos 1000 +ℤ t)) (pos 1000)) highest = simp to_z-of_z at by_min in
+      to_z-of_z w64 r r_fits ∙ is_least ∙ ap (λ z. int_min (quot_z (z *ℤ (pos 1000 +ℤ t)) (pos 1000)) highest) is_held

@@ -80,8 +80,8 @@ module _ (kind : Meaning) (setup : Setup) where
       let header_due = ap (λ d. is_due d head) o.first in
       let same = same_record p.due r head rest is header_due fits o.fitting s o.starts in
       let t = header_on kind setup p q head refl (ap (admitted kind setup p) (sym same) ∙ so) in
-      let is-it : o.header ≡ t.0 = headers o.header t.0 t.1 in
-      false≢true (sym o.other ∙ ap (named kind setup) is-it ∙ t.2)
+      let is_it : o.header ≡ t.0 = headers o.header t.0 t.1 in
+      false≢true (sym o.other ∙ ap (named kind setup) is_it ∙ t.2)
     where
       headers : (g h : Header) → RecordKinds.Header g ≡ RecordKinds.Header h → g ≡ h
       headers g h e = cc
@@ -101,8 +101,8 @@ module _ (kind : Meaning) (setup : Setup) where
           let f = first_on kind setup p q t ts (after_beginning rs (t ∷ ts) p q b.lawful (ap (reading kind setup) (sym is) ∙ c.lawful)) in
           let fits = (all_append_parts Fitting rs (t ∷ ts) (subst (AllByRecursion Fitting) is c.fitting)).1.0 in
           let parts = ap (λ l. flat_map record_bytes l ++ less) is ∙ ap (λ l. l ++ less) (flat_map-append record_bytes rs (t ∷ ts)) ∙ append_assoc (flat_map record_bytes rs) (flat_map record_bytes (t ∷ ts)) less in
-          let rest-is = append_cancel_left (flat_map record_bytes rs) rest _ (sym b.front ∙ c.front ∙ parts) in
-          absurd (no_further p f.next at rest why t reason f.was_due f.passes fits (flat_map record_bytes ts ++ less, rest-is ∙ starts t ts less))
+          let rest_is = append_cancel_left (flat_map record_bytes rs) rest _ (sym b.front ∙ c.front ∙ parts) in
+          absurd (no_further p f.next at rest why t reason f.was_due f.passes fits (flat_map record_bytes ts ++ less, rest_is ∙ starts t ts less))
 
 -- what begins another is as long only where it is the same
 pub begins_same : (rs qs : List Record) → Begins rs qs → flat_map record_bytes rs ≡ flat_map record_bytes qs → rs ≡ qs

@@ -50,10 +50,10 @@ module _ (kind : Meaning) (setup : Setup) where
       let one = read_section kind setup p (due_section p so some) e rs fits h end in
       let s = one.section in
       let q = after_all p s in
-      let some-intervals = one.lawful.some in
-      let left = sections_left kind setup p s some-intervals in
-      let more = read_sections n q e one.rest (left ∙ omega arith) (due_next kind setup p s some-intervals ∙ ap (due_after 0 0) (sym left)) one.fitting one.onto end in
-      let above = All-weaker (λ t. q.next_article ≤ t.article) (λ t. s.article < t.article) (λ t k. omega (arith, next_article kind setup p s some-intervals)) more.sections more.least in
+      let some_intervals = one.lawful.some in
+      let left = sections_left kind setup p s some_intervals in
+      let more = read_sections n q e one.rest (left ∙ omega arith) (due_next kind setup p s some_intervals ∙ ap (due_after 0 0) (sym left)) one.fitting one.onto end in
+      let above = All-weaker (λ t. q.next_article ≤ t.article) (λ t. s.article < t.article) (λ t k. omega (arith, next_article kind setup p s some_intervals)) more.sections more.least in
       record {
         sections = s ∷ more.sections;
         parts = one.parts ∙ ap (λ l. section_records s ++ l) more.parts;
@@ -68,12 +68,12 @@ module _ (kind : Meaning) (setup : Setup) where
   sections_read [] p is so lawful least up = (p, refl, so ∙ ap (due_after 0 0) is)
   sections_read (s ∷ ss) p is so lawful least up =
       let q = after_all p s in
-      let some-intervals = lawful.0.some in
-      let left = sections_left kind setup p s some-intervals in
+      let some_intervals = lawful.0.some in
+      let left = sections_left kind setup p s some_intervals in
       let above = all_from_map (λ y. s.article < y) (λ t. t.article) ss up.0 in
-      let next = All-weaker (λ t. s.article < t.article) (λ t. q.next_article ≤ t.article) (λ t k. omega (arith, next_article kind setup p s some-intervals)) ss above in
+      let next = All-weaker (λ t. s.article < t.article) (λ t. q.next_article ≤ t.article) (λ t k. omega (arith, next_article kind setup p s some_intervals)) ss above in
       let here = section_reads kind setup p (due_section p so (omega arith)) s lawful.0 least.0 in
-      let more = sections_read ss q (left ∙ omega arith) (due_next kind setup p s some-intervals ∙ ap (due_after 0 0) (sym left)) lawful.1 next up.1 in
+      let more = sections_read ss q (left ∙ omega arith) (due_next kind setup p s some_intervals ∙ ap (due_after 0 0) (sym left)) lawful.1 next up.1 in
       (more.0, fold-append (onward kind setup) (Some p) (section_records s) (flat_map section_records ss) ∙ ap (λ o. fold (onward kind setup) o (flat_map section_records ss)) here ∙ more.1, more.2)
 
 -- MESSAGES

@@ -61,10 +61,10 @@ module _ (kind : Meaning) (setup : Setup) (bytes : List ℕ) (fits : (i : ℕ) �
       )
 
   -- the same of a reader, whose set-up and bytes are these
-  module _ (setup₁ : Setup) (same-setup : setup₁ ≡ setup) (bytes₁ : List ℕ) (same_bytes : bytes₁ ≡ bytes) where
+  module _ (setup₁ : Setup) (same_setup : setup₁ ≡ setup) (bytes₁ : List ℕ) (same_bytes : bytes₁ ≡ bytes) where
     pub read_more : (at to : ℕ) (p q : Progress) (f : Found) (b : Begun kind setup bytes at p) → Next kind setup₁ p at bytes₁ (Ok (Some f)) q to → (c : Begun kind setup bytes to q) × (c.0 ≡ b.0 ++ (f.«record» ∷ []))
     read_more at to p q f b h =
-        let here = (λ i. step kind (sym same-setup i) p at (drop at (sym same_bytes i))) ∙ h.0 in
+        let here = (λ i. step kind (sym same_setup i) p at (drop at (sym same_bytes i))) ∙ h.0 in
         let more = begun_more at p q f.«record» b here in
         subst (λ (n : ℕ). (c : Begun kind setup bytes n q) × (c.0 ≡ b.0 ++ (f.«record» ∷ []))) (sym h.2) (more, refl)
 
@@ -80,7 +80,7 @@ module _ (kind : Meaning) (setup : Setup) (bytes : List ℕ) (fits : (i : ℕ) �
         counts false n k l so one = omega arith
 
     pub read_all : (at to : ℕ) (p q : Progress) → Next kind setup₁ p at bytes₁ (Ok None) q to → step kind setup p at (drop at bytes) ≡ Ok None
-    read_all at to p q h = (λ i. step kind (sym same-setup i) p at (drop at (sym same_bytes i))) ∙ h.0
+    read_all at to p q h = (λ i. step kind (sym same_setup i) p at (drop at (sym same_bytes i))) ∙ h.0
 
 pub record_size : (r : Record) → 1 ≤ length (record_bytes r)
 record_size (RecordKinds.Header h) = omega arith
