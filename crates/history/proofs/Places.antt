@@ -1,6 +1,8 @@
--- What the places of a strip stand for where its bytes are cut and edited. Assumes nothing.
-use Rattle.std.proofs.Common.{◌≡◌, ℕ, zero, suc, ◌+◌, ◌-◌, ◌*◌, ◌<◌, ◌≤◌, List, ◌∷◌, ◌++◌, length, get_or, take, drop, sym, refl, ap, ◌∙◌, suc-add, zero-add, add-one, arith, lit<}
-use Rattle.std.specs.List.{insert, remove}
+-- What the places of a strip stand for where its bytes are cut and edited, and that they hold records all the while.
+-- Assumes nothing.
+use Rattle.std.proofs.Common.{◌≡◌, ℕ, zero, suc, ◌+◌, ◌-◌, ◌*◌, ◌<◌, ◌≤◌, List, ◌∷◌, ◌++◌, length, get_or, take, drop, sym, refl, ap, ◌∙◌, subst, suc-add, zero-add, add-one, arith, lit<}
+use Rattle.std.specs.List.{flat_map, insert, remove}
+use Rattle.std.proofs.Math.Seq.{take-add}
 use Rattle.std.proofs.lemmas.List.{append_assoc, get_or-take, length-take-le, take-append-le, take-take, take_at, drop_at, drop-drop, drop-take, length-drop}
 use Rattle.std.proofs.lemmas.List.Edits.{length-paste, drop-paste}
 use Rattle.std.proofs.lemmas.Slice.{drop-put_mid}
@@ -8,7 +10,7 @@ use borrow.Rule.Slice.PartMut.{put_mid}
 use lib.Seq.{paste}
 use Rattle.action.specs.declared.orders.Action.{Action}
 use Rattle.action.specs.Bytes.{action_bytes, action_of}
-use Rattle.history.specs.Strips.{strip_items}
+use Rattle.history.specs.Strips.{Recorded, strip_items}
 
 -- an action lies in the first sixteen bytes
 pub action_front : (bs : List ℕ) → action_of (take 16 bs) ≡ action_of bs
@@ -50,19 +52,54 @@ strip_split zero n bs = rw zero-add refl
 strip_split (suc m) n bs =
     rw (suc-add m n) (ap (λ t. action_of bs ∷ t) (strip_split m n (drop 16 bs) ∙ ap (λ t. strip_items m (drop 16 bs) ++ strip_items n t) (past_one m bs)))
 
+-- the bytes of the places after the first
+rest_of : (n : ℕ) (bs : List ℕ) → drop 16 (take (suc n * 16) bs) ≡ take (n * 16) (drop 16 bs)
+rest_of n bs =
+    let e : suc n * 16 ≡ 16 + n * 16 = omega arith in
+    ap (λ m. drop 16 (take m bs)) e ∙ drop-take 16 (n * 16) bs
+
 -- n places lie in n times sixteen bytes
 pub strip_front : (n : ℕ) (bs : List ℕ) → strip_items n (take (n * 16) bs) ≡ strip_items n bs
 strip_front zero bs = refl
 strip_front (suc n) bs =
     let long : 16 ≤ suc n * 16 = omega arith in
-    let e : suc n * 16 ≡ 16 + n * 16 = omega arith in
     let head = sym (action_front (take (suc n * 16) bs)) ∙ ap action_of (take-take 16 (suc n * 16) bs long) ∙ action_front bs in
-    let rest = ap (λ m. drop 16 (take m bs)) e ∙ drop-take 16 (n * 16) bs in
-    let tail = ap (strip_items n) rest ∙ strip_front n (drop 16 bs) in
+    let tail = ap (strip_items n) (rest_of n bs) ∙ strip_front n (drop 16 bs) in
     λ i. head i ∷ tail i
 
 pub strip_same : (n : ℕ) (xs ys : List ℕ) → take (n * 16) xs ≡ take (n * 16) ys → strip_items n xs ≡ strip_items n ys
 strip_same n xs ys e = sym (strip_front n xs) ∙ ap (strip_items n) e ∙ strip_front n ys
+
+-- RECORDS
+
+recorded_same : (n : ℕ) (xs ys : List ℕ) → take (n * 16) xs ≡ take (n * 16) ys → Recorded n xs → Recorded n ys
+recorded_same n xs ys e h = sym e ∙ h ∙ ap (flat_map action_bytes) (strip_same n xs ys e)
+
+recorded_first : (n : ℕ) (bs : List ℕ) → Recorded (suc n) bs → (take 16 bs ≡ action_bytes (action_of bs)) × Recorded n (drop 16 bs)
+recorded_first n bs h =
+    let long : 16 ≤ suc n * 16 = omega arith in
+    (sym (take-take 16 (suc n * 16) bs long) ∙ ap (take 16) h, sym (rest_of n bs) ∙ ap (drop 16) h)
+
+recorded_more : (n : ℕ) (bs : List ℕ) → take 16 bs ≡ action_bytes (action_of bs) → Recorded n (drop 16 bs) → Recorded (suc n) bs
+recorded_more n bs one more =
+    let e : suc n * 16 ≡ 16 + n * 16 = omega arith in
+    ap (λ m. take m bs) e ∙ take-add 16 (n * 16) bs ∙ (λ i. one i ++ more i)
+
+recorded_split : (m n : ℕ) (bs : List ℕ) → Recorded (m + n) bs → Recorded m bs × Recorded n (drop (m * 16) bs)
+recorded_split zero n bs h = (refl, subst (λ (k : ℕ). Recorded k bs) (zero-add n) h)
+recorded_split (suc m) n bs h =
+    let one = recorded_first (m + n) bs (subst (λ (k : ℕ). Recorded k bs) (suc-add m n) h) in
+    let more = recorded_split m n (drop 16 bs) one.1 in
+    (recorded_more m bs one.0 more.0, subst (Recorded n) (past_one m bs) more.1)
+
+recorded_join : (m n : ℕ) (bs : List ℕ) → Recorded m bs → Recorded n (drop (m * 16) bs) → Recorded (m + n) bs
+recorded_join zero n bs h more = subst (λ (k : ℕ). Recorded k bs) (sym (zero-add n)) more
+recorded_join (suc m) n bs h more =
+    let one = recorded_first m bs h in
+    let rest = recorded_join m n (drop 16 bs) one.1 (subst (Recorded n) (sym (past_one m bs)) more) in
+    subst (λ (k : ℕ). Recorded k bs) (sym (suc-add m n)) (recorded_more (m + n) bs one.0 rest)
+
+-- EDITS
 
 -- an edit at the seam of two lists
 inserted_at : (xs ys : List Action) (a : Action) (i : ℕ) → length xs ≡ i → insert (xs ++ ys) i a ≡ xs ++ a ∷ ys
@@ -86,6 +123,32 @@ module _ (n i : ℕ) (xs ys : List ℕ) (below : take (i * 16) ys ≡ take (i * 
       let tail = ap (λ bs. strip_items k (drop 16 bs)) here ∙ strip_same k zs (drop (i * 16) xs) (rw bytes above) in
       let was = ap (λ m. insert (strip_items m xs) i a) (sym all) ∙ ap (λ l. insert l i a) (strip_split i k xs) ∙ inserted_at _ _ a i (length_strip i xs) in
       ap (λ m. strip_items m ys) more ∙ strip_split i (suc k) ys ∙ (λ t. strip_same i ys xs below t ++ head t ∷ tail t) ∙ sym was
+
+  recorded_inserted : (zs : List ℕ) (a : Action) → i ≤ n → action_of (action_bytes a) ≡ a → drop (i * 16) ys ≡ action_bytes a ++ zs → take (n * 16 - i * 16) zs ≡ take (n * 16 - i * 16) (drop (i * 16) xs) → Recorded n xs → Recorded (n + 1) ys
+  recorded_inserted zs a within back here above h =
+      let k = n - i in
+      let more : n + 1 ≡ i + suc k = omega arith in
+      let all : i + k ≡ n = omega arith in
+      let bytes : k * 16 ≡ n * 16 - i * 16 = omega arith in
+      let was = recorded_split i k xs (subst (λ (m : ℕ). Recorded m xs) (sym all) h) in
+      let head = ap (take 16) here ∙ sym (ap action_bytes (ap action_of here ∙ back)) in
+      let same : take (k * 16) (drop (i * 16) xs) ≡ take (k * 16) zs = rw bytes (sym above) in
+      let tail = subst (λ bs. Recorded k (drop 16 bs)) (sym here) (recorded_same k _ zs same was.1) in
+      let first = recorded_same i xs ys (sym below) was.0 in
+      subst (λ (m : ℕ). Recorded m ys) (sym more) (recorded_join i (suc k) ys first (recorded_more k (drop (i * 16) ys) head tail))
+
+  recorded_removed : i < n → take (n * 16 - (i * 16 + 16)) (drop (i * 16) ys) ≡ take (n * 16 - (i * 16 + 16)) (drop (i * 16 + 16) xs) → Recorded n xs → Recorded (n - 1) ys
+  recorded_removed within above h =
+      let k = n - 1 - i in
+      let less : n - 1 ≡ i + k = omega arith in
+      let all : i + suc k ≡ n = omega arith in
+      let bytes : k * 16 ≡ n * 16 - (i * 16 + 16) = omega arith in
+      let was = recorded_split i (suc k) xs (subst (λ (m : ℕ). Recorded m xs) (sym all) h) in
+      let past = (recorded_first k (drop (i * 16) xs) was.1).1 in
+      let same : take (k * 16) (drop (i * 16 + 16) xs) ≡ take (k * 16) (drop (i * 16) ys) = rw bytes (sym above) in
+      let tail = recorded_same k _ _ (ap (take (k * 16)) (drop-drop 16 (i * 16) xs) ∙ same) past in
+      let first = recorded_same i xs ys (sym below) was.0 in
+      subst (λ (m : ℕ). Recorded m ys) (sym less) (recorded_join i k ys first tail)
 
   -- ys has from place i on the places that xs has after place i, to the n-th
   pub strip_removed : i < n → take (n * 16 - (i * 16 + 16)) (drop (i * 16) ys) ≡ take (n * 16 - (i * 16 + 16)) (drop (i * 16 + 16) xs) → strip_items (n - 1) ys ≡ remove (strip_items n xs) i
@@ -130,13 +193,22 @@ module _ (n i k : ℕ) (xs ws rs : List ℕ) (a : Action) (within : i ≤ n) (ro
   front : length (take (i * 16) ws) ≡ i * 16
   front = length-take-le (i * 16) ws (omega (arith, long))
 
-  pub strip_put : action_of (action_bytes a) ≡ a → strip_items (n + 1) (put_mid (i * 16) k ws rs) ≡ insert (strip_items n xs) i a
-  strip_put back =
-      let below = take_at (take (i * 16) ws) _ (i * 16) front ∙ ap (take (i * 16)) moved ∙ take_below_paste _ _ _ _ fits enough (i * 16) (omega arith) in
-      let here = drop_at (take (i * 16) ws) (rs ++ drop k (drop (i * 16) ws)) (i * 16) front ∙ ap (λ bs. bs ++ drop k (drop (i * 16) ws)) written in
+  below : take (i * 16) (put_mid (i * 16) k ws rs) ≡ take (i * 16) xs
+  below = take_at (take (i * 16) ws) _ (i * 16) front ∙ ap (take (i * 16)) moved ∙ take_below_paste _ _ _ _ fits enough (i * 16) (omega arith)
+
+  here : drop (i * 16) (put_mid (i * 16) k ws rs) ≡ action_bytes a ++ drop k (drop (i * 16) ws)
+  here = drop_at (take (i * 16) ws) (rs ++ drop k (drop (i * 16) ws)) (i * 16) front ∙ ap (λ bs. bs ++ drop k (drop (i * 16) ws)) written
+
+  above : take (n * 16 - i * 16) (drop k (drop (i * 16) ws)) ≡ take (n * 16 - i * 16) (drop (i * 16) xs)
+  above =
       let after = ap (λ m. drop m (drop (i * 16) ws)) size ∙ drop-drop 16 (i * 16) ws ∙ ap (drop (i * 16 + 16)) moved in
-      let above = ap (take (n * 16 - i * 16)) after ∙ take_pasted _ _ _ _ fits enough in
-      strip_inserted n i xs _ below _ a within back here above
+      ap (take (n * 16 - i * 16)) after ∙ take_pasted _ _ _ _ fits enough
+
+  pub strip_put : action_of (action_bytes a) ≡ a → strip_items (n + 1) (put_mid (i * 16) k ws rs) ≡ insert (strip_items n xs) i a
+  strip_put back = strip_inserted n i xs _ below _ a within back here above
+
+  pub recorded_put : action_of (action_bytes a) ≡ a → Recorded n xs → Recorded (n + 1) (put_mid (i * 16) k ws rs)
+  recorded_put back = recorded_inserted n i xs _ below _ a within back here above
 
   pub rest_put : drop ((n + 1) * 16) (put_mid (i * 16) k ws rs) ≡ drop ((n + 1) * 16) xs
   rest_put =
@@ -151,14 +223,20 @@ module _ (n i : ℕ) (xs ws : List ℕ) (within : i < n) (room : n * 16 ≤ leng
   left : n * 16 - (i * 16 + 16) ≤ length (drop (i * 16 + 16) xs)
   left = simp length-drop (omega arith)
 
+  start : take (i * 16) ws ≡ take (i * 16) xs
+  start = ap (take (i * 16)) moved ∙ take_below_paste _ _ _ _ less left (i * 16) (omega arith)
+
+  end : take (n * 16 - (i * 16 + 16)) (drop (i * 16) ws) ≡ take (n * 16 - (i * 16 + 16)) (drop (i * 16 + 16) xs)
+  end = ap (λ bs. take (n * 16 - (i * 16 + 16)) (drop (i * 16) bs)) moved ∙ take_pasted _ _ _ _ less left
+
   pub strip_take : strip_items (n - 1) ws ≡ remove (strip_items n xs) i
-  strip_take =
-      let below = ap (take (i * 16)) moved ∙ take_below_paste _ _ _ _ less left (i * 16) (omega arith) in
-      let above = ap (λ bs. take (n * 16 - (i * 16 + 16)) (drop (i * 16) bs)) moved ∙ take_pasted _ _ _ _ less left in
-      strip_removed n i xs ws below within above
+  strip_take = strip_removed n i xs ws start within end
+
+  pub recorded_take : Recorded n xs → Recorded (n - 1) ws
+  recorded_take = recorded_removed n i xs ws start within end
 
   pub rest_take : drop ((n - 1) * 16) ws ≡ drop ((n - 1) * 16) xs
   rest_take = ap (drop ((n - 1) * 16)) moved ∙ drop_past_paste _ _ _ _ less left ((n - 1) * 16) (omega arith)
 
 -- what each step over a strip's places needs
-pub ruleset strip_steps = (action_front, get_d_strip, length_strip, strip_take, rest_take)
+pub ruleset strip_steps = (action_front, get_d_strip, length_strip, strip_take, recorded_take, rest_take)

@@ -1,6 +1,6 @@
 ghost use Rattle.std.specs.Prelude.{◌≡◌, ◌*◌, ◌/◌, ◌<◌, ◌≤◌, min, [], length, drop, vec_len, slice_index_or};
 ghost use Rattle.std.specs.List.{insert, remove};
-ghost use Rattle.history.specs.Strips.{strip_items};
+ghost use Rattle.history.specs.Strips.{Recorded, strip_items};
 
 use crate::faults::{HistoryFault, check_insert, check_place};
 use crate::interface::History;
@@ -20,6 +20,8 @@ pub struct Strip {
     ghost within: { length (strip_items used bytes.items) ≤ places },
     ghost whole: { places ≡ min (vec_len bytes / 16) 1024 },
     ghost few: { places ≤ 1024 },
+    // Whole records, although an action is read without a look at the kind byte.
+    ghost recorded: { Recorded used bytes.items },
     // It holds at any bytes, and stands here so that each function has it at hand.
     ghost counted: { length (strip_items used bytes.items) ≡ used },
 }

@@ -1,13 +1,28 @@
 -- `put_in` meets its contract. Assumes nothing.
-use Rattle.std.proofs.Common.{◌≡◌, ◌+◌, ◌-◌, ◌*◌, ◌^◌, ◌<◌, ◌≤◌, length, drop, vec_items, refl, ap, ◌∙◌, arith, w32, SFits, rules}
+use Rattle.std.proofs.Common.{◌≡◌, ◌+◌, ◌-◌, ◌*◌, ◌^◌, ◌<◌, ◌≤◌, length, drop, vec_items, sym, refl, ap, ◌∙◌, subst, arith, w32, SFits, rules}
 use borrow.Rule.Slice.PartMut.{put_mid, same_len_mid}
 use lib.Seq.{paste}
 use Rattle.std.proofs.lemmas.List.{with_items_is}
 use Rattle.action.specs.Bytes.{action_bytes}
 use Rattle.action.proofs.Round.{action_back}
-use Rattle.history.specs.Strips.{strip_items}
-use Rattle.history.proofs.Places.{strip_put, rest_put}
+use Rattle.history.specs.Strips.{Recorded, strip_items}
+use Rattle.history.proofs.Places.{recorded_put, rest_put, strip_put}
 use Rattle.history.proofs.strips.Strip.put_in.Goals as goal
+
+pub invariant_of-self-clause-recorded : goal.invariant_of-self-clause-recorded
+invariant_of-self-clause-recorded c =
+    let i = c.args.i in
+    let n = c.args.self.now.used in
+    let k = i * 16 + 16 - i * 16 in
+    let ws = c.deref_mut.result.now in
+    let rs = c.copy_from_slice.new.self in
+    let moved = c.deref_mut.ensures.value ∙ c.copy_within.ensures.items in
+    let written = c.copy_from_slice.ensures.after ∙ c.to_bytes.ensures in
+    let back = action_back c.args.action (search rules) (search rules) (search rules) in
+    let was = c.args.self.now.recorded in
+    let now = recorded_put n i k _ ws rs _ (omega arith) (omega arith) (omega arith) moved written back was in
+    let long = same_len_mid (i * 16) k ws rs c.copy_from_slice.ensures.len ∙ c.deref_mut.ensures.len in
+    subst (Recorded (n + 1)) (sym (with_items_is c.copy_within.new.self (put_mid (i * 16) k ws rs) long)) now
 
 pub returns : goal.returns
 returns c =
