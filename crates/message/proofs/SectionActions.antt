@@ -17,7 +17,7 @@ use Rattle.message.specs.Progress.{after_action, carries, due_after, lawful_acti
 use Rattle.message.specs.Reading.{is_due}
 use Rattle.message.proofs.Onward.{action_on}
 use Rattle.message.proofs.Steps.{onward_passes}
-use Rattle.message.proofs.Stretches.{Run, Stretch}
+use Rattle.message.proofs.Blocks.{Block, Run}
 
 -- THE STRETCH
 
@@ -29,8 +29,8 @@ pub due_action : (p : Progress) → ActionsReady p → 1 ≤ p.actions → p.due
 due_action p so some = so ∙ cond-true (ltb 0 p.actions) Due.Action (cond (ltb 0 p.sections) Due.Section Due.End) (lt-ltb 0 p.actions some)
 
 module _ (kind : Meaning) (setup : Setup) where
-  pub actions_stretch : Stretch kind setup RecordKinds.Action (lawful_action kind) after_action (λ p. p.actions) ActionsReady
-  actions_stretch = record {
+  pub actions_block : Block kind setup RecordKinds.Action (lawful_action kind) after_action (λ p. p.actions) ActionsReady
+  actions_block = record {
     takes = λ p q r so some is passes. action_on kind setup p q r (ap (λ d. is_due d r) (sym (due_action p so some)) ∙ is) passes;
     leads = λ p x so some test. onward_passes kind setup p (after_action p x) (RecordKinds.Action x) (ap (λ d. is_due d (RecordKinds.Action x)) (due_action p so some)) (cond-true (lawful_action kind p x) (Ok (after_action p x)) (Err Broken) test);
     goes_on = λ p so some end. let z : Due.Action ≡ Due.End = sym (due_action p so some) ∙ end in cc;

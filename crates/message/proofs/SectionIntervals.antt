@@ -18,7 +18,7 @@ use Rattle.message.specs.Progress.{after_interval, carries, due_after, lawful_in
 use Rattle.message.specs.Reading.{is_due}
 use Rattle.message.proofs.Onward.{interval_on}
 use Rattle.message.proofs.Steps.{onward_passes}
-use Rattle.message.proofs.Stretches.{Run, Stretch}
+use Rattle.message.proofs.Blocks.{Block, Run}
 
 -- THE STRETCH
 
@@ -30,8 +30,8 @@ due_interval p so some =
     so ∙ cond-true (ltb 0 p.intervals) Due.Interval (cond (ltb 0 p.actions) Due.Action (cond (ltb 0 p.sections) Due.Section Due.End)) (lt-ltb 0 p.intervals some)
 
 module _ (kind : Meaning) (setup : Setup) where
-  pub intervals_stretch : Stretch kind setup RecordKinds.Interval (lawful_interval setup) after_interval (λ p. p.intervals) IntervalsReady
-  intervals_stretch = record {
+  pub intervals_block : Block kind setup RecordKinds.Interval (lawful_interval setup) after_interval (λ p. p.intervals) IntervalsReady
+  intervals_block = record {
     takes = λ p q r so some is passes. interval_on kind setup p q r (ap (λ d. is_due d r) (sym (due_interval p so some)) ∙ is) passes;
     leads = λ p i so some test. onward_passes kind setup p (after_interval p i) (RecordKinds.Interval i) (ap (λ d. is_due d (RecordKinds.Interval i)) (due_interval p so some)) (cond-true (lawful_interval setup p i) (Ok (after_interval p i)) (Err Broken) test);
     goes_on = λ p so some end. let z : Due.Interval ≡ Due.End = sym (due_interval p so some) ∙ end in cc;

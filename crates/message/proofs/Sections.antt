@@ -23,11 +23,11 @@ use Rattle.message.specs.Format.{Section, head_of, section_records}
 use Rattle.message.specs.Lawful.{LawfulAction, LawfulInterval, LawfulSection}
 use Rattle.message.specs.Progress.{after_action, after_interval, after_section, carries, due_after, lawful_action, lawful_interval, lawful_section, no_action, no_span, no_spans}
 use Rattle.message.specs.Reading.{is_due, onward}
-use Rattle.message.proofs.SectionActions.{ActionsReady, Fair, actions_pass, actions_stretch, actions_told}
-use Rattle.message.proofs.SectionIntervals.{CarriedBy, IntervalsReady, all_from_map, carried_by, intervals_pass, intervals_stretch, intervals_told, span_set}
+use Rattle.message.proofs.Blocks.{Run, folded_keeps, left_after, ready_after, split, through}
 use Rattle.message.proofs.Onward.{first_on, section_on, some_same}
+use Rattle.message.proofs.SectionActions.{ActionsReady, Fair, actions_block, actions_pass, actions_told}
+use Rattle.message.proofs.SectionIntervals.{CarriedBy, IntervalsReady, all_from_map, carried_by, intervals_block, intervals_pass, intervals_told, span_set}
 use Rattle.message.proofs.Steps.{onward_passes}
-use Rattle.message.proofs.Stretches.{Run, folded_keeps, left_after, ready_after, split, through}
 
 -- ALL OF A LIST
 
@@ -83,8 +83,8 @@ module _ (kind : Meaning) (setup : Setup) (p : Progress) (head : SectionHead) wh
   pub actions_ready : (is : List Interval) → length is ≡ head.intervals → 1 ≤ head.intervals → ActionsReady (after_intervals p head is)
   actions_ready is many some =
       let q = after_intervals p head is in
-      let none : q.intervals ≡ 0 = left_after kind setup _ _ _ _ _ (intervals_stretch kind setup) (after_section p head) is ∙ omega arith in
-      ready_after kind setup _ _ _ _ _ (intervals_stretch kind setup) (after_section p head) is (intervals_ready some) ∙ ap (λ n. due_after n q.actions q.sections) none
+      let none : q.intervals ≡ 0 = left_after kind setup _ _ _ _ _ (intervals_block kind setup) (after_section p head) is ∙ omega arith in
+      ready_after kind setup _ _ _ _ _ (intervals_block kind setup) (after_section p head) is (intervals_ready some) ∙ ap (λ n. due_after n q.actions q.sections) none
 
   pub actions_left : (is : List Interval) → (after_intervals p head is).actions ≡ head.actions
   actions_left is = folded_keeps (λ q. q.actions) after_interval (λ _ _. refl) (after_section p head) is
@@ -101,8 +101,8 @@ module _ (kind : Meaning) (setup : Setup) (p : Progress) (s : Section) (some : 1
   pub due_next : (after_all p s).due ≡ due_after 0 0 (p.sections - 1)
   due_next =
       let middle = after_intervals p (head_of s) s.intervals in
-      let none : (after_all p s).actions ≡ 0 = left_after kind setup _ _ _ _ _ (actions_stretch kind setup) middle s.actions ∙ omega (arith, actions_left kind setup p (head_of s) s.intervals) in
-      ready_after kind setup _ _ _ _ _ (actions_stretch kind setup) middle s.actions (actions_ready kind setup p (head_of s) s.intervals refl some) ∙ (λ i. due_after 0 (none i) (sections_left i))
+      let none : (after_all p s).actions ≡ 0 = left_after kind setup _ _ _ _ _ (actions_block kind setup) middle s.actions ∙ omega (arith, actions_left kind setup p (head_of s) s.intervals) in
+      ready_after kind setup _ _ _ _ _ (actions_block kind setup) middle s.actions (actions_ready kind setup p (head_of s) s.intervals refl some) ∙ (λ i. due_after 0 (none i) (sections_left i))
 
 -- TESTS PASSED, AND LAWFUL
 
@@ -174,9 +174,9 @@ module _ (kind : Meaning) (setup : Setup) (p : Progress) (is : p.due ≡ Due.Sec
       let t = section_on kind setup p f.next r (ap (λ d. is_due d r) (sym is) ∙ f.was_due) f.passes in
       let head = t.0 in
       let told = head_told setup p head t.2 in
-      let a = split kind setup _ _ _ _ _ (intervals_stretch kind setup) head.intervals (after_section p head) e rs refl (intervals_ready kind setup p head told.some) (ap (λ q. fold (onward kind setup) (Some q) rs) (sym t.3) ∙ f.onto) end in
+      let a = split kind setup _ _ _ _ _ (intervals_block kind setup) head.intervals (after_section p head) e rs refl (intervals_ready kind setup p head told.some) (ap (λ q. fold (onward kind setup) (Some q) rs) (sym t.3) ∙ f.onto) end in
       let middle = after_intervals p head a.items in
-      let b = split kind setup _ _ _ _ _ (actions_stretch kind setup) head.actions middle e a.rest (actions_left kind setup p head a.items) (actions_ready kind setup p head a.items a.many told.some) a.onto end in
+      let b = split kind setup _ _ _ _ _ (actions_block kind setup) head.actions middle e a.rest (actions_left kind setup p head a.items) (actions_ready kind setup p head a.items a.many told.some) a.onto end in
       let s : Section = record { article = head.article; intervals = a.items; actions = b.items } in
       let same : head_of s ≡ head = λ i. record { article = head.article; intervals = a.many i; actions = b.many i } in
       let more = all_append_parts Fitting (map RecordKinds.Action b.items) b.rest (subst (AllByRecursion Fitting) b.parts (all_append_parts Fitting (map RecordKinds.Interval a.items) a.rest (subst (AllByRecursion Fitting) a.parts fits.1)).1) in
@@ -203,4 +203,4 @@ module _ (kind : Meaning) (setup : Setup) (p : Progress) (is : p.due ≡ Due.Sec
       let fair = All-weaker (LawfulAction kind s) (Fair kind s.article middle.spans) (lawful_fair kind setup p s l) s.actions l.actions in
       let leads = leads_later 0 no_action s.actions (omega arith) (All-weaker (LawfulAction kind s) (λ x. 0 < x.time) (λ x a. omega (arith, a.begun, a.in_turn)) s.actions l.actions) in
       let actions = actions_pass kind middle s.actions (subst (λ (n : ℕ). AllByRecursion (Fair kind n middle.spans) s.actions) (sym article) fair) (subst (λ a. Leads a s.actions) (sym last) leads) l.ordered in
-      ap (λ o. fold (onward kind setup) o (map RecordKinds.Interval s.intervals ++ map RecordKinds.Action s.actions)) first ∙ fold-append (onward kind setup) (Some (after_section p head)) (map RecordKinds.Interval s.intervals) (map RecordKinds.Action s.actions) ∙ ap (λ o. fold (onward kind setup) o (map RecordKinds.Action s.actions)) (through kind setup _ _ _ _ _ (intervals_stretch kind setup) (after_section p head) s.intervals refl (intervals_ready kind setup p head l.some) intervals) ∙ through kind setup _ _ _ _ _ (actions_stretch kind setup) middle s.actions (actions_left kind setup p head s.intervals) (actions_ready kind setup p head s.intervals refl l.some) actions
+      ap (λ o. fold (onward kind setup) o (map RecordKinds.Interval s.intervals ++ map RecordKinds.Action s.actions)) first ∙ fold-append (onward kind setup) (Some (after_section p head)) (map RecordKinds.Interval s.intervals) (map RecordKinds.Action s.actions) ∙ ap (λ o. fold (onward kind setup) o (map RecordKinds.Action s.actions)) (through kind setup _ _ _ _ _ (intervals_block kind setup) (after_section p head) s.intervals refl (intervals_ready kind setup p head l.some) intervals) ∙ through kind setup _ _ _ _ _ (actions_block kind setup) middle s.actions (actions_left kind setup p head s.intervals) (actions_ready kind setup p head s.intervals refl l.some) actions

@@ -5,6 +5,9 @@
 // Each `next` is inlined, as is the decoding that it calls: a record handed on through memory is written
 // field by field and read back in wider words, and the processor has to wait for such a read.
 //
+// The clause `runs` of each `new` says nothing of the bytes. It is a law of iterators that are seen as the list
+// of what they have left, put here so that the proof of a caller's chain has it at hand.
+//
 // Intervals and actions are looked for by `while let`. After a `for` over `by_ref` nothing is known of the
 // records that are left; `find_map` says what was called on which, from which the proof did not close.
 ghost use Rattle.std.specs.Prelude.{◌≡◌, ◌≤◌, List, length, map};
