@@ -91,7 +91,7 @@ module _ (kind : Meaning) (group : Group) (events : List Event) (views : ℕ →
     all_committed s sl =
         let on_it : Action → Bool = λ x. eqb x.article a in
         let g = (st.sites s sl).gathered a al in
-        ascending_same (g.archived ++ on a (views s).history) (in_order (on a b.committed)) g.ordered (in_order_ascending (on a b.committed) (distinct_kept on_it b.committed st.account.distinct))
+        ascending_same (g.archived ++ on a (views s).history) (in_order (on a b.committed)) g.ordered (in_order_ascending (on a b.committed) (pairwise_kept Apart on_it b.committed st.account.distinct))
         (λ x h. let r = g.sure x h in has_in_order (on a b.committed) x (has_kept_by on_it b.committed x r.0 (eq-eqb x.article a r.1)))
         (λ x h.
         let k = has_kept_by_parts on_it b.committed x (in_order_has (on a b.committed) x h) in
