@@ -16,7 +16,8 @@ static uint8_t *next(FILE *file, size_t length)
 {
     uint8_t *bytes = length == 0 ? NULL : malloc(length);
     if (bytes != NULL && fread(bytes, 1, length, file) != length) {
-            return NULL;
+        free(bytes);
+        return NULL;
     }
     return bytes;
 }

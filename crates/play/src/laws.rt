@@ -50,7 +50,7 @@ impl<K: Kind + Drop, J: Kind + Drop> Run<K, J> {
                 == self.known(other, article, other, q))
     }
 
-    // Law b: where nothing is open all sites are level.
+    // Law b: where nothing is open all sites are level, and each has every committed action, which law a counts.
     fn check_levels(&mut self, article: u8) {
         if !(0..self.sites).all(|site| self.is_closed_at(site, article)) {
             return;
@@ -60,7 +60,8 @@ impl<K: Kind + Drop, J: Kind + Drop> Run<K, J> {
             up(&mut self.counts.moved_levels, 1);
         }
         for site in 0..self.sites {
-            let is_level = self.is_alike(0, site, article);
+            let is_level =
+                self.is_alike(0, site, article) && self.book.has_all(site, article);
             self.counts.hold(Law::Level, site, is_level);
         }
     }
