@@ -7,6 +7,9 @@ int main(void)
     /* One byte more than the longest message that a table writes, an offer of 1,024 actions. */
     static uint8_t message[16475 + 1];
     size_t length = fread(message, 1, sizeof message, stdin);
+    if (ferror(stdin)) {
+        return 2;
+    }
     int64_t actions = site_message_actions(message, length, 1, 1, 3, 4); /* group 1, on-hand, 3 sites, 4 articles */
     if (actions < 0) {
         printf("refused %d\n", (int)-actions);

@@ -111,10 +111,12 @@ static void offer(struct site *site, const long long *numbers, struct counts *co
     long rows = 0;
     bind(site->offer, 1, numbers[0]);
     bind(site->offer, 2, numbers[1]);
-    while (sqlite3_step(site->offer) == SQLITE_ROW) {
+    int state;
+    while ((state = sqlite3_step(site->offer)) == SQLITE_ROW) {
         for (int j = 0; j < 3; j++) offered[rows % 1024][j] = sqlite3_column_int64(site->offer, j);
         rows++;
     }
+    if (state != SQLITE_DONE) stop("offer");
     sqlite3_reset(site->offer);
     counts->rows_offered += rows;
 }
@@ -135,8 +137,10 @@ static void look(struct site *site, const long long *figures, struct counts *cou
 {
     long long sums[ARTICLES];
     memcpy(sums, site->archived, sizeof sums);
-    while (sqlite3_step(site->all) == SQLITE_ROW)
+    int state;
+    while ((state = sqlite3_step(site->all)) == SQLITE_ROW)
         sums[sqlite3_column_int64(site->all, 0)] += sqlite3_column_int64(site->all, 1);
+    if (state != SQLITE_DONE) stop("sums");
     sqlite3_reset(site->all);
     for (int article = 0; article < ARTICLES; article++) {
         counts->sums++;
@@ -192,6 +196,12 @@ static void add_step(char *line)
     if (line[0] == 'P' || line[0] == 'T') wanted = 4 * (size_t)step->count;
     if (line[0] == 'F') wanted = ARTICLES;
     if (!strchr("PTOAF", line[0]) || step->site < 0 || step->site >= SITES || found != wanted) stop(line);
+    /* Where the articles stand among the numbers. */
+    size_t first = line[0] == 'P' || line[0] == 'T' ? 2 : 0, stride = first == 2 ? 4 : 2;
+    for (size_t i = first; line[0] != 'F' && i < found; i += stride) {
+        long long article = numbers[step->first + i];
+        if (article < 0 || article >= ARTICLES) stop(line);
+    }
 }
 
 static void read_trace(const char *name)
@@ -201,6 +211,7 @@ static void read_trace(const char *name)
     size_t room = 0;
     if (!file) stop(name);
     while (getline(&line, &room, file) > 0) add_step(line);
+    if (ferror(file)) stop(name);
     free(line);
     fclose(file);
 }
@@ -222,11 +233,14 @@ int main(int argc, char **argv)
 {
     struct counts counts = {0};
     if (argc == 2 && strcmp(argv[1], "version") == 0) return puts(sqlite3_libversion()) < 0;
-    if (argc != 3 || !strstr("plain indexed nothing", argv[2])) stop("usage: rows TRACE plain|indexed|nothing");
+    const char *how = argc == 3 ? argv[2] : "";
+    int is_indexed = strcmp(how, "indexed") == 0;
+    int is_idle = strcmp(how, "nothing") == 0;
+    if (!is_indexed && !is_idle && strcmp(how, "plain") != 0) stop("usage: rows TRACE plain|indexed|nothing, or rows version");
     read_trace(argv[1]);
-    if (strcmp(argv[2], "nothing") == 0) return 0;
+    if (is_idle) return 0;
     clock_t start = clock();
-    make(strcmp(argv[2], "indexed") == 0);
+    make(is_indexed);
     for (size_t i = 0; i < step_count; i++) do_step(&steps[i], &counts);
     double seconds = (double)(clock() - start) / CLOCKS_PER_SEC;
     printf("commits %ld offers %ld takes %ld archives %ld sums %ld wrong %ld\n", counts.commits, counts.offers,

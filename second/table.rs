@@ -1,8 +1,8 @@
 //! The table of one site.
 //!
 //! The history is a map in the order of actions, known entries that are 0 are not kept, and figures are
-//! worked from the whole history when they are asked for. Of the bases, those are kept that are not the
-//! start figure.
+//! worked from the whole history when they are asked for. A base is kept of each article that was
+//! archived; of any other it is the start figure.
 
 use std::collections::BTreeMap;
 

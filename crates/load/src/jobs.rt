@@ -9,20 +9,20 @@ use trials::{Keeping, Made, NoJob};
 
 // The kind of all tables.
 #[derive(Clone, Copy)]
-enum Sort {
+enum KindName {
     OnHand,
     Flags,
     Price,
 }
 
-impl FromStr for Sort {
+impl FromStr for KindName {
     type Err = NoJob;
 
-    fn from_str(word: &str) -> Result<Sort, NoJob> {
+    fn from_str(word: &str) -> Result<KindName, NoJob> {
         match word {
-            "on-hand" => Ok(Sort::OnHand),
-            "flags" => Ok(Sort::Flags),
-            "price" => Ok(Sort::Price),
+            "on-hand" => Ok(KindName::OnHand),
+            "flags" => Ok(KindName::Flags),
+            "price" => Ok(KindName::Price),
             _ => Err(NoJob),
         }
     }
@@ -31,7 +31,7 @@ impl FromStr for Sort {
 #[derive(Clone, Copy)]
 pub struct Job {
     keeping: Keeping,
-    sort: Sort,
+    kind: KindName,
     seasons: u32,
     seed: u32,
 }
@@ -45,7 +45,7 @@ impl FromStr for Job {
         let mut word = || words.next().ok_or(NoJob);
         let job = Job {
             keeping: word()?.parse()?,
-            sort: word()?.parse()?,
+            kind: word()?.parse()?,
             seasons: word()?.parse()?,
             seed: word()?.parse()?,
         };
@@ -66,10 +66,10 @@ impl Job {
     }
 
     fn run_over<H: History + Made + Drop>(&self, heap: Global) -> Result<Counts, AllocError> {
-        match self.sort {
-            Sort::OnHand => self.run_seasons::<OnHand, H>(heap),
-            Sort::Flags => self.run_seasons::<Flags, H>(heap),
-            Sort::Price => self.run_seasons::<Price, H>(heap),
+        match self.kind {
+            KindName::OnHand => self.run_seasons::<OnHand, H>(heap),
+            KindName::Flags => self.run_seasons::<Flags, H>(heap),
+            KindName::Price => self.run_seasons::<Price, H>(heap),
         }
     }
 

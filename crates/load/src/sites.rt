@@ -90,7 +90,9 @@ impl<K: Posted + Drop, H: History + Drop> Site<K, H> {
             operation: 1,
             amount: 1,
         };
-        post(&mut self.table, [more].into_iter(), buffer).is_none()
+        let posted = post(&mut self.table, [more].into_iter(), buffer);
+        self.kept = self.kept.wrapping_add(posted.map_or(0, |(count, _)| count));
+        posted.is_none()
     }
 
     // What the table knows of a site, 0 where there is nothing to know.

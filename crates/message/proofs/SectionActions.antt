@@ -19,7 +19,7 @@ use Rattle.message.proofs.Onward.{action_on}
 use Rattle.message.proofs.Steps.{onward_passes}
 use Rattle.message.proofs.Blocks.{Block, Run}
 
--- THE STRETCH
+-- THE BLOCK
 
 -- no interval is due
 abbrev pub ActionsReady : Progress → Type 0

@@ -20,7 +20,7 @@ use Rattle.message.proofs.Onward.{interval_on}
 use Rattle.message.proofs.Steps.{onward_passes}
 use Rattle.message.proofs.Blocks.{Block, Run}
 
--- THE STRETCH
+-- THE BLOCK
 
 abbrev pub IntervalsReady : Progress → Type 0
 IntervalsReady p = p.due ≡ due_after p.intervals p.actions p.sections

@@ -9,7 +9,7 @@ use Rattle.kind.specs.Meaning.{Meaning}
 use Rattle.message.specs.declared.faults.ReaderFault.{ReaderFault}
 use Rattle.message.specs.declared.reading.Due.TheVariants as Due
 use Rattle.message.specs.declared.reading.Progress.{Progress}
-use Rattle.message.specs.Checks.{Accepted, Accepts, Beginning, Reason, Refused, Unique, broken, cut, foreign, trailing}
+use Rattle.message.specs.Checks.{Accepted, Accepts, Beginning, NotBoth, Reason, Refused, Unique, broken, cut, foreign, trailing}
 use Rattle.message.specs.Faults.{shown}
 use Rattle.message.specs.Format.{Message, format, record_bytes, records}
 use Rattle.message.specs.Lawful.{LawfulMessage, action_count}
@@ -68,20 +68,19 @@ module _ (kind : Meaning) (setup : Setup) (small : kind.number ≤ 255) (bytes :
       decide (inl begins) = begins_same (records m) (records n) begins (sym is ∙ so)
       decide (inr begins) = sym (begins_same (records n) (records m) begins (sym so ∙ is))
 
+  pub not_refused : NotBoth kind setup bytes
+  not_refused m l is e (rs, p, rest, b, why) =
+      let a = message_begins m l is in
+      let begins = longest kind setup bytes rs (records m) p a.0 rest [] _ (shown e) b why a.1 in
+      let none = at_the_end kind setup a.0 p begins.0 a.2 (after_beginning kind setup (records m) begins.0 a.0 p a.1.lawful (ap (reading kind setup) (sym begins.1) ∙ b.lawful)) in
+      let same : rs ≡ records m = begins.1 ∙ ap (λ l. records m ++ l) none ∙ append-nil (records m) in
+      let here : p ≡ a.0 = some_same p a.0 (sym b.lawful ∙ ap (reading kind setup) same ∙ a.1.lawful) in
+      let empty : rest ≡ [] = append_cancel_left (flat_map record_bytes rs) rest [] (sym b.front ∙ a.1.front ∙ ap (λ l. flat_map record_bytes l ++ []) (sym same)) in
+      none_refused kind setup p _ rest (shown e) (ap (λ q. q.due) here ∙ a.2) empty why
+
   module _ (fits : (i : ℕ) → get_or bytes i 0 < 256) where
     pub scan_accepts : (r : Result ℕ ReaderFault) → Scanned kind setup bytes r → Accepts kind setup bytes r
     scan_accepts (Ok n) h m l is =
         let told = scan_accepted kind setup bytes fits (Ok n) h in
         ap Ok (told.3 ∙ ap action_count (messages_unique told.0 m told.1 l told.2 is))
-    scan_accepts (Err e) h m l is =
-        let told = scan_refused kind setup bytes fits (Err e) h in
-        let rs = told.0 in
-        let p = told.1 in
-        let rest = told.2 in
-        let a = message_begins m l is in
-        let begins = longest kind setup bytes rs (records m) p a.0 rest [] _ (shown e) told.3 told.4 a.1 in
-        let none = at_the_end kind setup a.0 p begins.0 a.2 (after_beginning kind setup (records m) begins.0 a.0 p a.1.lawful (ap (reading kind setup) (sym begins.1) ∙ told.3.lawful)) in
-        let same : rs ≡ records m = begins.1 ∙ ap (λ l. records m ++ l) none ∙ append-nil (records m) in
-        let here : p ≡ a.0 = some_same p a.0 (sym told.3.lawful ∙ ap (reading kind setup) same ∙ a.1.lawful) in
-        let empty : rest ≡ [] = append_cancel_left (flat_map record_bytes rs) rest [] (sym told.3.front ∙ a.1.front ∙ ap (λ l. flat_map record_bytes l ++ []) (sym same)) in
-        absurd (none_refused kind setup p _ rest (shown e) (ap (λ q. q.due) here ∙ a.2) empty told.4)
+    scan_accepts (Err e) h m l is = absurd (not_refused m l is e (scan_refused kind setup bytes fits (Err e) h))

@@ -94,3 +94,8 @@ Refused kind setup bytes (Err e) =
 abbrev pub Once : Meaning → Setup → List ℕ → Type 0
 Once kind setup bytes =
     (e d : ReaderFault) → Refused kind setup bytes (Err e) → Refused kind setup bytes (Err d) → shown e ≡ shown d
+
+-- and a lawful message is refused by none
+abbrev pub NotBoth : Meaning → Setup → List ℕ → Type 0
+NotBoth kind setup bytes =
+    (m : Message) → LawfulMessage kind setup m → bytes ≡ format m → (e : ReaderFault) → Refused kind setup bytes (Err e) → ⊥

@@ -1,5 +1,5 @@
 ghost use Rattle.std.specs.Prelude.{◌≡◌};
-ghost use Rattle.message.specs.Checks.{Accepted, Accepts, Once, Refused, Unique};
+ghost use Rattle.message.specs.Checks.{Accepted, Accepts, NotBoth, Once, Refused, Unique};
 ghost use Rattle.message.specs.Reading.{is_action};
 ghost use Rattle.message.specs.Scanning.{Scanned};
 
@@ -38,6 +38,7 @@ pub fn check<K: Kind>(setup: Setup, bytes: &[u8]) -> Result<usize, ReaderFault>
     ensures unique { Unique K.means setup bytes.now }
     ensures refused { Refused K.means setup bytes.now result }
     ensures once { Once K.means setup bytes.now }
+    ensures not_both { NotBoth K.means setup bytes.now }
 {
     scan::<K>(setup, bytes)
 }

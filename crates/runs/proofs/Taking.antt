@@ -242,7 +242,7 @@ module _ (kind : Meaning) (group : Group) (s : ℕ) (b : Book) (v : View) (m : M
     gathered = λ a al. gathered passes sound a al (site.gathered a al) account;
   }
 
--- THE LINE
+-- THE EVENT
 
 -- what a lawful message says of times, read from its bytes
 times_read : (kind : Meaning) (small : kind.number ≤ 255) (setup : Setup) (m : Message) → LawfulMessage kind setup m → (bytes : List ℕ) → bytes ≡ format m → (a q : ℕ) → taken_times bytes a q ≡ highest a q (told_intervals m)

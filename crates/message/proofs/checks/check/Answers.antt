@@ -1,5 +1,5 @@
 use Rattle.message.proofs.Once.{refused_once}
-use Rattle.message.proofs.Verdicts.{messages_unique, scan_accepted, scan_accepts, scan_refused}
+use Rattle.message.proofs.Verdicts.{messages_unique, not_refused, scan_accepted, scan_accepts, scan_refused}
 use Rattle.message.proofs.checks.check.Goals as goal
 
 pub returns : goal.returns
@@ -15,4 +15,5 @@ returns g c =
       unique = messages_unique kind setup small bytes;
       refused = scan_refused kind setup bytes (λ i. (c.type_inv.bytes i).fits) r c.scan.ensures;
       once = refused_once kind setup bytes;
+      not_both = not_refused kind setup small bytes;
     }
