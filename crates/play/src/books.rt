@@ -198,9 +198,8 @@ impl Book {
 
     // Does the site have every committed action on the article?
     pub(crate) fn has_all(&self, site: u8, article: u8) -> bool {
-        self.committed
-            .values()
-            .all(|action| action.article != article || self.reaches(site, action))
+        self.committed.values().all(|action| action.article != article
+            || self.reaches(site, action))
     }
 
     // Works an article's figure at a site, from the committed actions that it has, each once and in order.

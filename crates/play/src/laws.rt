@@ -60,8 +60,7 @@ impl<K: Kind + Drop, J: Kind + Drop> Run<K, J> {
             up(&mut self.counts.moved_levels, 1);
         }
         for site in 0..self.sites {
-            let is_level =
-                self.is_alike(0, site, article) && self.book.has_all(site, article);
+            let is_level = self.is_alike(0, site, article) && self.book.has_all(site, article);
             self.counts.hold(Law::Level, site, is_level);
         }
     }
