@@ -42,7 +42,7 @@ fn on_hand_holds() -> bool
         doing(OnHand::ADD, -200),
         doing(OnHand::ADD, -200),
     ];
-    worked::<OnHand>(OnHand::start(), &moves) == 1100
+    worked::<OnHand>(OnHand::START, &moves) == 1100
 }
 
 // The order matters: a price that is set forgets what was done to it before.
@@ -51,8 +51,8 @@ fn set_prices_hold() -> bool
 {
     let set = doing(Price::SET, 10_000);
     let raise = doing(Price::RAISE, 50);
-    worked::<Price>(Price::start(), &[set, raise]) == 10_500
-        && worked::<Price>(Price::start(), &[raise, set]) == 10_000
+    worked::<Price>(Price::START, &[set, raise]) == 10_500
+        && worked::<Price>(Price::START, &[raise, set]) == 10_000
 }
 
 fn raised_prices_hold() -> bool

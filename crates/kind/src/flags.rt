@@ -18,13 +18,13 @@ impl Flags {
 const ALL_FLAGS: i32 = 16_777_215;
 
 impl Kind for Flags {
-    const KIND_NUMBER: u8 = 2;
+    const NUMBER: u8 = 2;
 
-    const START_FIGURE: i64 = 0;
+    const START: i64 = 0;
 
-    ghost KIND_NUMBER = { flags.number };
+    ghost NUMBER = { flags.number };
 
-    ghost START_FIGURE = { flags.starts };
+    ghost START = { flags.starts };
 
     ghost means = { flags };
 

@@ -7,27 +7,16 @@ ghost use Rattle.kind.specs.Meaning.{Meaning};
 // apart, as they do in an action, in a message and in the calls of a table.
 pub trait Kind {
     // How messages name the kind: a number and no enum, since anyone may add a kind.
-    const KIND_NUMBER: u8;
+    const NUMBER: u8;
 
-    const START_FIGURE: i64;
+    // The figure of an article before its first action.
+    const START: i64;
 
-    ghost KIND_NUMBER: { ℕ };
+    ghost NUMBER: { ℕ };
 
-    ghost START_FIGURE: { ℤ };
+    ghost START: { ℤ };
 
     ghost means: { Meaning };
-
-    fn number() -> u8
-        ensures { result ≡ means.number }
-    {
-        Self::KIND_NUMBER
-    }
-
-    fn start() -> i64
-        ensures { result ≡ means.starts }
-    {
-        Self::START_FIGURE
-    }
 
     fn is_known(operation: u8, amount: i32) -> bool
         ensures { result ≡ means.knows operation amount };
@@ -42,9 +31,9 @@ pub trait Kind {
     // amount, also of those that no action can hold.
 
     // The constants are the number and the start figure that the kind means.
-    ghost numbered: { KIND_NUMBER ≡ means.number };
+    ghost numbered: { NUMBER ≡ means.number };
 
-    ghost starting: { START_FIGURE ≡ means.starts };
+    ghost starting: { START ≡ means.starts };
 
     // The number fits the one byte that a message has for it.
     ghost number_fits: { means.number ≤ 255 };

@@ -18,13 +18,13 @@ impl OnHand {
 const MOST_MOVED: i32 = 1_000_000;
 
 impl Kind for OnHand {
-    const KIND_NUMBER: u8 = 1;
+    const NUMBER: u8 = 1;
 
-    const START_FIGURE: i64 = 0;
+    const START: i64 = 0;
 
-    ghost KIND_NUMBER = { on_hand.number };
+    ghost NUMBER = { on_hand.number };
 
-    ghost START_FIGURE = { on_hand.starts };
+    ghost START = { on_hand.starts };
 
     ghost means = { on_hand };
 

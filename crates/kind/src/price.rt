@@ -65,13 +65,13 @@ fn raised(figure: i64, thousandths: i64) -> i64
 }
 
 impl Kind for Price {
-    const KIND_NUMBER: u8 = 3;
+    const NUMBER: u8 = 3;
 
-    const START_FIGURE: i64 = 0;
+    const START: i64 = 0;
 
-    ghost KIND_NUMBER = { price.number };
+    ghost NUMBER = { price.number };
 
-    ghost START_FIGURE = { price.starts };
+    ghost START = { price.starts };
 
     ghost means = { price };
 

@@ -28,7 +28,7 @@ impl Header {
     fn is_named<K: Kind>(&self, setup: &Setup) -> bool
         ensures { result ≡ named K.means setup.now self.now }
     {
-        self.group == setup.group && self.kind == K::number()
+        self.group == setup.group && self.kind == K::NUMBER
     }
 
     fn is_lawful(&self, setup: &Setup) -> bool

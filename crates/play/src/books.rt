@@ -208,7 +208,7 @@ impl Book {
             .values()
             .filter(|action| action.article == article && self.reaches(site, action))
             .fold(
-                K::start(),
+                K::START,
                 |figure, action| K::step(figure, action.operation, action.amount),
             )
     }

@@ -31,7 +31,7 @@ impl<K: Kind, H: History> Table<K, H> {
         Table {
             store: Store {
                 state: State {
-                    ledger: Ledger::new(setup, K::start()),
+                    ledger: Ledger::new(setup, K::START),
                     clock: 0,
                     transaction: None,
                 },

@@ -40,7 +40,7 @@ impl State {
     {
         self.transaction.is_some()
             && ticket.group == self.ledger.setup.group
-            && ticket.kind == K::number()
+            && ticket.kind == K::NUMBER
             && ticket.site == self.ledger.setup.own
             && ticket.clock == self.clock
     }
@@ -58,7 +58,7 @@ impl State {
         let setup = self.ledger.setup;
         Header {
             group: setup.group,
-            kind: K::number(),
+            kind: K::NUMBER,
             sender: setup.own,
             sections,
         }

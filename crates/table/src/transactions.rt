@@ -21,7 +21,7 @@ impl<H: History> Store<H> {
         state.transaction = Some(Pending::new());
         Ok(Ticket {
             group: state.ledger.setup.group,
-            kind: K::number(),
+            kind: K::NUMBER,
             site: state.ledger.setup.own,
             clock: state.clock,
         })

@@ -19,8 +19,8 @@ sound : (g : Over) (c : goal.After-new g) → Sound g.K.Kind.means (record {
 sound g c =
     let kind = g.K.Kind.means in
     let capacity = g.H.History.room c.args.history in
-    let fits : SFits w64 c.start.result = record { sfits = c.start.type_inv } in
-    let start : to_z w64 (of_z w64 c.start.result) ≡ kind.starts = to_z-of_z w64 c.start.result fits ∙ c.start.ensures in
+    let fits : SFits w64 c.START.result = record { sfits = c.START.type_inv } in
+    let start : to_z w64 (of_z w64 c.START.result) ≡ kind.starts = to_z-of_z w64 c.START.result fits ∙ c.START.ensures ∙ g.met.K.Kind.starting in
     let rows : c.new.result.rows ≡ replicate 64 (start_row kind.starts) = c.new.ensures.rows ∙ ap (λ f. replicate 64 (start_row f)) start in
     let made : ◌≡◌ {A = View} (fresh kind c.args.setup capacity) _ = λ i. record {
       setup = sym c.new.ensures.setup i;
