@@ -15,14 +15,17 @@ use Rattle.message.specs.declared.reading.Progress.{Progress}
 use Rattle.message.specs.declared.records.Header.{Header}
 use Rattle.message.specs.declared.records.Record.{Record}
 use Rattle.message.specs.declared.records.Record.TheVariants as RecordKinds
-use Rattle.message.specs.Checks.{Beginning, Reason, StartsWith, broken, cut, foreign, trailing}
+use Rattle.message.specs.Checks.{StartsWith}
 use Rattle.message.specs.Decoding.{decoded}
 use Rattle.message.specs.Fields.{Fitting}
 use Rattle.message.specs.Format.{record_bytes}
 use Rattle.message.specs.Progress.{admitted, named, start}
-use Rattle.message.specs.Reading.{is_due, onward, reading}
+use Rattle.message.specs.Reading.{onward, reading}
+use Rattle.message.specs.Rules.{is_due}
+use Rattle.message.specs.Scanning.{ReadSoFar}
 use Rattle.message.proofs.Decodings.{decoded_format}
 use Rattle.message.proofs.Onward.{first_on, header_on, not_none}
+use Rattle.message.proofs.Reasons.{ReasonAt, broken_at, cut_at, foreign_at, trailing_at}
 use Rattle.message.proofs.Steps.{onward_passes, record_size}
 
 -- one list begins the other
@@ -73,9 +76,9 @@ module _ (kind : Meaning) (setup : Setup) where
   -- REFUSALS
 
   -- the rest of refused bytes starts with no record that leads on
-  pub no_further : (p q : Progress) (at : ℕ) (rest : List ℕ) (why : Refusal) (r : Record) → Reason kind setup p at rest why → is_due p.due r ≡ true → admitted kind setup p r ≡ Ok q → Fitting r → StartsWith rest r → ⊥
-  no_further p q at rest why r (cut n) is so fits s = n.none r is fits s
-  no_further p q at rest why r (foreign o) is so fits s =
+  pub no_further : (p q : Progress) (at : ℕ) (rest : List ℕ) (why : Refusal) (r : Record) → ReasonAt kind setup p at rest why → is_due p.due r ≡ true → admitted kind setup p r ≡ Ok q → Fitting r → StartsWith rest r → ⊥
+  no_further p q at rest why r (cut_at n) is so fits s = n.none r is fits s
+  no_further p q at rest why r (foreign_at o) is so fits s =
       let head = RecordKinds.Header o.header in
       let header_due = ap (λ d. is_due d head) o.first in
       let same = same_record p.due r head rest is header_due fits o.fitting s o.starts in
@@ -85,13 +88,13 @@ module _ (kind : Meaning) (setup : Setup) where
     where
       headers : (g h : Header) → RecordKinds.Header g ≡ RecordKinds.Header h → g ≡ h
       headers g h e = cc
-  no_further p q at rest why r (broken b) is so fits s =
+  no_further p q at rest why r (broken_at b) is so fits s =
       let same = same_record p.due r b.breaks rest is b.was_due fits b.fitting s b.starts in
       not_none q (sym b.stops ∙ ap (onward kind setup (Some p)) (sym same) ∙ onward_passes kind setup p q r is so)
-  no_further p q at rest why r (trailing f) is so fits s = false≢true (ap (λ d. is_due d r) (sym f.ended) ∙ is)
+  no_further p q at rest why r (trailing_at f) is so fits s = false≢true (ap (λ d. is_due d r) (sym f.ended) ∙ is)
 
   -- every lawful beginning of refused bytes begins the one that they are refused after
-  pub longest : (bytes : List ℕ) (rs qs : List Record) (p q : Progress) (rest less : List ℕ) (at : ℕ) (why : Refusal) → Beginning kind setup bytes rs p rest → Reason kind setup p at rest why → Beginning kind setup bytes qs q less → Begins qs rs
+  pub longest : (bytes : List ℕ) (rs qs : List Record) (p q : Progress) (rest less : List ℕ) (at : ℕ) (why : Refusal) → ReadSoFar kind setup bytes rs p rest → ReasonAt kind setup p at rest why → ReadSoFar kind setup bytes qs q less → Begins qs rs
   longest bytes rs qs p q rest less at why b reason c = decide (beginnings start p q rs qs rest less b.lawful c.lawful b.fitting c.fitting (sym b.front ∙ c.front))
     where
       decide : Begins rs qs ⊎ Begins qs rs → Begins qs rs

@@ -6,7 +6,8 @@ use Rattle.message.specs.declared.reading.Due.{Due}
 use Rattle.message.specs.declared.reading.Progress.{Progress}
 use Rattle.message.specs.declared.records.Record.{Record}
 use Rattle.message.specs.Progress.{admitted}
-use Rattle.message.specs.Reading.{is_due, onward}
+use Rattle.message.specs.Reading.{onward}
+use Rattle.message.specs.Rules.{is_due}
 use Rattle.message.proofs.Onward.{first_on, some_same}
 
 -- what no step changes

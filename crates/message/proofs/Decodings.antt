@@ -14,7 +14,7 @@ use Rattle.message.specs.declared.records.Record.TheVariants as RecordKinds
 use Rattle.message.specs.Decoding.{begins, decoded, header_in, interval_in, section_in}
 use Rattle.message.specs.Fields.{ActionFits, Fitting, HeaderFits, IntervalFits, SectionFits}
 use Rattle.message.specs.Format.{header_bytes, interval_bytes, record_bytes, section_bytes}
-use Rattle.message.specs.Reading.{is_due}
+use Rattle.message.specs.Rules.{is_due}
 
 two_bytes : (n : ℕ) → n < 65536 → n / 256 % 256 * 256 + n % 256 ≡ n
 two_bytes n h = omega arith

@@ -18,7 +18,8 @@ use Rattle.message.specs.Fields.{Fitting}
 use Rattle.message.specs.Format.{Message, Section, header_of, records, section_records}
 use Rattle.message.specs.Lawful.{LawfulMessage, LawfulSection, Rising, action_count}
 use Rattle.message.specs.Progress.{after_header, due_after, lawful_header, named, start}
-use Rattle.message.specs.Reading.{is_action, is_due, onward, reading}
+use Rattle.message.specs.Reading.{is_action, onward, reading}
+use Rattle.message.specs.Rules.{LawfulHeader, Names, is_due}
 use Rattle.message.proofs.SectionIntervals.{all_from_map}
 use Rattle.message.proofs.Onward.{first_on, header_on, some_same}
 use Rattle.message.proofs.Sections.{after_all, due_next, next_article, read_section, section_reads, sections_left}
@@ -78,25 +79,23 @@ module _ (kind : Meaning) (setup : Setup) where
 
 -- MESSAGES
 
-pub record HeaderTold (kind : Meaning) (setup : Setup) (h : Header) : Type 0 where
-  pub of_group : h.group ≡ setup.group
-  pub of_kind : h.kind ≡ kind.number
-  pub some : 1 ≤ h.sections
-  pub few : h.sections ≤ 16
-  pub sent : h.sender < setup.sites
+-- what the tests of a header ask
+pub names_told : (kind : Meaning) (setup : Setup) (h : Header) → named kind setup h ≡ true → Names kind setup h
+names_told kind setup h is = let a = and_parts (eqb h.group setup.group) _ is in (eqb-true _ _ a.0, eqb-true _ _ a.1)
+
+pub names_pass : (kind : Meaning) (setup : Setup) (h : Header) → Names kind setup h → named kind setup h ≡ true
+names_pass kind setup h n = and_from _ _ (eq-eqb _ _ n.0) (eq-eqb _ _ n.1)
+
+pub header_told : (setup : Setup) (h : Header) → lawful_header setup h ≡ true → LawfulHeader setup h
+header_told setup h is =
+    let a = and_parts (leb 1 h.sections && leb h.sections 16) _ is in
+    let b = and_parts (leb 1 h.sections) _ a.0 in
+    record { some = leb-true _ _ b.0; few = leb-true _ _ b.1; sent = ltb-true _ _ a.1 }
+
+pub header_passes : (setup : Setup) (h : Header) → LawfulHeader setup h → lawful_header setup h ≡ true
+header_passes setup h l = and_from _ _ (and_from _ _ (le-leb _ _ l.some) (le-leb _ _ l.few)) (lt-ltb _ _ l.sent)
 
 module _ (kind : Meaning) (setup : Setup) where
-  header_told : (h : Header) → named kind setup h ≡ true → lawful_header setup h ≡ true → HeaderTold kind setup h
-  header_told h name law =
-      let a = and_parts (eqb h.group setup.group) _ name in
-      let b = and_parts (leb 1 h.sections && leb h.sections 16) _ law in
-      let c = and_parts (leb 1 h.sections) _ b.0 in
-      record { of_group = eqb-true _ _ a.0; of_kind = eqb-true _ _ a.1; some = leb-true _ _ c.0; few = leb-true _ _ c.1; sent = ltb-true _ _ b.1 }
-
-  header_passes : (h : Header) → HeaderTold kind setup h → (named kind setup h ≡ true) × (lawful_header setup h ≡ true)
-  header_passes h t =
-      (and_from _ _ (eq-eqb _ _ t.of_group) (eq-eqb _ _ t.of_kind), and_from _ _ (and_from _ _ (le-leb _ _ t.some) (le-leb _ _ t.few)) (lt-ltb _ _ t.sent))
-
   -- records that are read to the end are those of a lawful message
   pub reads_lawful : (rs : List Record) (e : Progress) → reading kind setup rs ≡ Some e → AllByRecursion Fitting rs → e.due ≡ Due.End → (m : Message) × LawfulMessage kind setup m × (records m ≡ rs)
   reads_lawful [] e h fits end = absurd (let z : Due.Header ≡ Due.End = ap (λ q. q.due) (some_same start e h) ∙ end in cc)
@@ -104,13 +103,14 @@ module _ (kind : Meaning) (setup : Setup) where
       let f = first_on kind setup start e r rs read in
       let t = header_on kind setup start f.next r f.was_due f.passes in
       let h = t.0 in
-      let told = header_told h t.2 t.3 in
+      let names = names_told kind setup h t.2 in
+      let told = header_told setup h t.3 in
       let due = sym (cond-true (ltb 0 h.sections) Due.Section Due.End (lt-ltb 0 h.sections told.some)) in
       let ss = read_sections kind setup h.sections (after_header start h) e rs refl due fits.1 (ap (λ q. fold (onward kind setup) (Some q) rs) (sym t.4) ∙ f.onto) end in
       let m : Message = record { group = h.group; kind = h.kind; sender = h.sender; sections = ss.sections } in
       let same : header_of m ≡ h = λ i. record { group = h.group; kind = h.kind; sender = h.sender; sections = ss.many i } in (
         m,
-        record { of_group = told.of_group; of_kind = told.of_kind; sent = told.sent; some = omega (arith, told.some, ss.many); few = omega (arith, told.few, ss.many); sections = ss.lawful; rising = ss.rising },
+        record { of_group = names.0; of_kind = names.1; sent = told.sent; some = omega (arith, told.some, ss.many); few = omega (arith, told.few, ss.many); sections = ss.lawful; rising = ss.rising },
         λ i. (ap RecordKinds.Header same ∙ sym t.1) i ∷ sym ss.parts i,
       )
 
@@ -120,8 +120,9 @@ module _ (kind : Meaning) (setup : Setup) where
       let h = header_of m in
       let ss = m.sections in
       let p = after_header start h in
-      let passes = header_passes h (record { of_group = l.of_group; of_kind = l.of_kind; some = l.some; few = l.few; sent = l.sent }) in
-      let first = onward_passes kind setup start p (RecordKinds.Header h) refl (cond-true (named kind setup h) (cond (lawful_header setup h) (Ok p) (Err Broken)) (Err Foreign) passes.0 ∙ cond-true (lawful_header setup h) (Ok p) (Err Broken) passes.1) in
+      let names = names_pass kind setup h (l.of_group, l.of_kind) in
+      let passes = header_passes setup h (record { some = l.some; few = l.few; sent = l.sent }) in
+      let first = onward_passes kind setup start p (RecordKinds.Header h) refl (cond-true (named kind setup h) (cond (lawful_header setup h) (Ok p) (Err Broken)) (Err Foreign) names ∙ cond-true (lawful_header setup h) (Ok p) (Err Broken) passes) in
       let due = sym (cond-true (ltb 0 (length ss)) Due.Section Due.End (lt-ltb 0 (length ss) l.some)) in
       let more = sections_read kind setup ss p refl due l.sections (All-weaker (LawfulSection kind setup) (λ s. 0 ≤ s.article) (λ s k. omega arith) ss l.sections) l.rising in
       (more.0, ap (λ o. fold (onward kind setup) o (flat_map section_records ss)) first ∙ more.1, more.2)

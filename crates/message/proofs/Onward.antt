@@ -15,7 +15,8 @@ use Rattle.message.specs.declared.records.SectionHead.{SectionHead}
 use Rattle.message.specs.declared.records.Record.{Record}
 use Rattle.message.specs.declared.records.Record.TheVariants as RecordKinds
 use Rattle.message.specs.Progress.{admitted, after_action, after_header, after_interval, after_section, lawful_action, lawful_header, lawful_interval, lawful_section, named}
-use Rattle.message.specs.Reading.{is_due, onward}
+use Rattle.message.specs.Reading.{onward}
+use Rattle.message.specs.Rules.{is_due}
 
 pub some_same : {X : Type 0} (x y : X) → Some x ≡ Some y → x ≡ y
 some_same x y h = cc
@@ -24,11 +25,11 @@ pub not_none : {X : Type 0} (x : X) → None ≡ Some x → ⊥
 not_none x h = cc
 
 -- what a test that gates a progress tells
-passed : (b : Bool) (p q : Progress) → cond b (Ok p) (Err Broken) ≡ Ok q → (b ≡ true) × (p ≡ q)
+pub passed : (b : Bool) (p q : Progress) → cond b (Ok p) (Err Broken) ≡ Ok q → (b ≡ true) × (p ≡ q)
 passed true p q h = (refl, cc)
 passed false p q h = cc
 
-passed_twice : (a b : Bool) (p q : Progress) → cond a (cond b (Ok p) (Err Broken)) (Err Foreign) ≡ Ok q → (a ≡ true) × (b ≡ true) × (p ≡ q)
+pub passed_twice : (a b : Bool) (p q : Progress) → cond a (cond b (Ok p) (Err Broken)) (Err Foreign) ≡ Ok q → (a ≡ true) × (b ≡ true) × (p ≡ q)
 passed_twice true b p q h = let k = passed b p q h in (refl, k.0, k.1)
 passed_twice false b p q h = cc
 

@@ -12,7 +12,7 @@ use Rattle.message.specs.declared.records.Record.{Record}
 use Rattle.message.specs.Decoding.{begins, decoded, header_in, interval_in, number2, section_in}
 use Rattle.message.specs.Fields.{ActionFits, Fitting, HeaderFits, IntervalFits, SectionFits}
 use Rattle.message.specs.Format.{header_bytes, interval_bytes, record_bytes, section_bytes}
-use Rattle.message.specs.Reading.{is_due}
+use Rattle.message.specs.Rules.{is_due}
 use Rattle.message.proofs.Digits.{four_digits, two_digits}
 
 -- a list by its next n elements and the rest

@@ -13,15 +13,17 @@ use Rattle.message.specs.declared.reading.Progress.{Progress}
 use Rattle.message.specs.declared.records.Header.{Header}
 use Rattle.message.specs.declared.records.Record.{Record}
 use Rattle.message.specs.declared.records.Record.TheVariants as RecordKinds
-use Rattle.message.specs.Checks.{Reason, StartsWith, broken, cut, foreign, trailing}
+use Rattle.message.specs.Checks.{StartsWith}
 use Rattle.message.specs.Decoding.{decoded}
 use Rattle.message.specs.Faults.{fault_at, shown}
 use Rattle.message.specs.Fields.{Fitting}
 use Rattle.message.specs.Format.{record_bytes}
 use Rattle.message.specs.Progress.{admitted, after_header, lawful_header, named}
-use Rattle.message.specs.Reading.{Step, is_due, judged, step, stepped}
+use Rattle.message.specs.Reading.{Step, judged, step, stepped}
+use Rattle.message.specs.Rules.{is_due}
 use Rattle.message.proofs.Decodings.{decoded_format}
 use Rattle.message.proofs.Onward.{not_none}
+use Rattle.message.proofs.Reasons.{ReasonAt, broken_at, cut_at, foreign_at, trailing_at}
 use Rattle.message.proofs.Recoding.{whole_back}
 
 -- WHAT IS DECODED
@@ -80,28 +82,28 @@ module _ (kind : Meaning) (setup : Setup) where
     refused_told _ f is so = inr (other_flawed _ _ f so, λ h same. cc)
 
     -- a step that is refused has one of the four reasons
-    pub reason : (at : ℕ) (rest : List ℕ) (why : ReaderFault) → ((i : ℕ) → get_or rest i 0 < 256) → step kind setup p at rest ≡ Err why → Reason kind setup p at rest (shown why)
+    pub reason : (at : ℕ) (rest : List ℕ) (why : ReaderFault) → ((i : ℕ) → get_or rest i 0 < 256) → step kind setup p at rest ≡ Err why → ReasonAt kind setup p at rest (shown why)
     reason at rest why bytes h = by_decoded (decoded p.due rest) refl h
       where
         why_is : (f g : Flaw) → f ≡ g → ◌≡◌ {A = Step} (Err (fault_at at g)) (Err why) → shown why ≡ shown (fault_at at f)
         why_is f g is e = let same : why ≡ fault_at at g = cc in ap shown (same ∙ ap (fault_at at) (sym is))
 
-        by_verdict : (r : Record) → decoded p.due rest ≡ Ok (Some r) → (v : Result Progress Flaw) → admitted kind setup p r ≡ v → judged at r v ≡ Err why → Reason kind setup p at rest (shown why)
+        by_verdict : (r : Record) → decoded p.due rest ≡ Ok (Some r) → (v : Result Progress Flaw) → admitted kind setup p r ≡ v → judged at r v ≡ Err why → ReasonAt kind setup p at rest (shown why)
         by_verdict r is (Ok q) so e = cc
         by_verdict r is (Err f) so e =
             let back = whole_back rest bytes p.due r is in
             ⊎_elim
-            (λ k. foreign (record { is = why_is Foreign f k.0 e; first = k.1.2; header = k.1.0; fitting = subst Fitting k.1.1 back.1; starts = subst (StartsWith rest) k.1.1 (drop (length (record_bytes r)) rest, back.2); other = k.1.3 }))
-            (λ k. broken (record { is = why_is Broken f k.0 e; breaks = r; was_due = back.0; fitting = back.1; starts = (drop (length (record_bytes r)) rest, back.2); ours = k.1; stops = ap (λ b. cond b (result_ok (admitted kind setup p r)) None) back.0 ∙ ap result_ok so }))
+            (λ k. foreign_at (record { is = why_is Foreign f k.0 e; first = k.1.2; header = k.1.0; fitting = subst Fitting k.1.1 back.1; starts = subst (StartsWith rest) k.1.1 (drop (length (record_bytes r)) rest, back.2); other = k.1.3 }))
+            (λ k. broken_at (record { is = why_is Broken f k.0 e; breaks = r; was_due = back.0; fitting = back.1; starts = (drop (length (record_bytes r)) rest, back.2); ours = k.1; stops = ap (λ b. cond b (result_ok (admitted kind setup p r)) None) back.0 ∙ ap result_ok so }))
             (refused_told r f back.0 so)
 
-        by_decoded : (d : Result (Option Record) Flaw) → decoded p.due rest ≡ d → stepped kind setup p at d ≡ Err why → Reason kind setup p at rest (shown why)
+        by_decoded : (d : Result (Option Record) Flaw) → decoded p.due rest ≡ d → stepped kind setup p at d ≡ Err why → ReasonAt kind setup p at rest (shown why)
         by_decoded (Ok (Some r)) is e = by_verdict r is (admitted kind setup p r) refl e
         by_decoded (Ok None) is e = cc
         by_decoded (Err f) is e =
             ⊎_elim
-            (λ k. let t = cut_told rest p.due (is ∙ ap Err (sym k)) in cut (record { is = why_is Cut f k e; not_ended = t.0; none = t.1 }))
-            (λ k. trailing (record { is = why_is Trailing f k.0 e; ended = k.1; more = k.2 }))
+            (λ k. let t = cut_told rest p.due (is ∙ ap Err (sym k)) in cut_at (record { is = why_is Cut f k e; not_ended = t.0; none = t.1 }))
+            (λ k. trailing_at (record { is = why_is Trailing f k.0 e; ended = k.1; more = k.2 }))
             (flaw_told rest p.due f is)
 
     -- a step that ended had the end due, and no bytes left

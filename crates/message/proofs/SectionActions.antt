@@ -14,7 +14,7 @@ use Rattle.message.specs.declared.reading.Span.{Span}
 use Rattle.message.specs.declared.faults.Flaw.TheVariants.{Broken}
 use Rattle.message.specs.declared.records.Record.TheVariants as RecordKinds
 use Rattle.message.specs.Progress.{after_action, carries, due_after, lawful_action, no_span}
-use Rattle.message.specs.Reading.{is_due}
+use Rattle.message.specs.Rules.{is_due}
 use Rattle.message.proofs.Onward.{action_on}
 use Rattle.message.proofs.Steps.{onward_passes}
 use Rattle.message.proofs.Blocks.{Block, Run}

@@ -15,7 +15,7 @@ use Rattle.message.specs.declared.records.Interval.{Interval}
 use Rattle.message.specs.declared.records.Record.TheVariants as RecordKinds
 use Rattle.message.specs.Lawful.{LawfulInterval, Rising}
 use Rattle.message.specs.Progress.{after_interval, carries, due_after, lawful_interval, no_span}
-use Rattle.message.specs.Reading.{is_due}
+use Rattle.message.specs.Rules.{is_due}
 use Rattle.message.proofs.Onward.{interval_on}
 use Rattle.message.proofs.Steps.{onward_passes}
 use Rattle.message.proofs.Blocks.{Block, Run}

@@ -22,7 +22,8 @@ use Rattle.action.proofs.Members.{all_append_parts}
 use Rattle.message.specs.Format.{Section, head_of, section_records}
 use Rattle.message.specs.Lawful.{LawfulAction, LawfulInterval, LawfulSection}
 use Rattle.message.specs.Progress.{after_action, after_interval, after_section, carries, due_after, lawful_action, lawful_interval, lawful_section, no_action, no_span, no_spans}
-use Rattle.message.specs.Reading.{is_due, onward}
+use Rattle.message.specs.Reading.{onward}
+use Rattle.message.specs.Rules.{is_due}
 use Rattle.message.proofs.Blocks.{Run, folded_keeps, left_after, ready_after, split, through}
 use Rattle.message.proofs.Onward.{first_on, section_on, some_same}
 use Rattle.message.proofs.SectionActions.{ActionsReady, Fair, actions_block, actions_pass, actions_told}
@@ -44,7 +45,7 @@ no_span_lem c = by_place (cases_lt c 8)
     by_place (inl within) = get_or-replicate 8 c no_span no_span within
     by_place (inr past) = get_or_past no_spans c no_span past
 
-none_carried : (c time : ℕ) → carries (get_or no_spans c no_span) time ≡ true → ⊥
+pub none_carried : (c time : ℕ) → carries (get_or no_spans c no_span) time ≡ true → ⊥
 none_carried c time h =
     let parts = and_parts (ltb 0 time) (leb time 0) (ap (λ s. carries s time) (sym (no_span_lem c)) ∙ h) in
     omega (arith, ltb-true 0 time parts.0, leb-true time 0 parts.1)

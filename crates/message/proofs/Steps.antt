@@ -16,7 +16,8 @@ use Rattle.message.specs.Decoding.{decoded}
 use Rattle.message.specs.Fields.{Fitting}
 use Rattle.message.specs.Format.{record_bytes}
 use Rattle.message.specs.Progress.{admitted, start}
-use Rattle.message.specs.Reading.{Next, is_action, is_due, judged, onward, step, stepped}
+use Rattle.message.specs.Reading.{Next, is_action, judged, onward, step, stepped}
+use Rattle.message.specs.Rules.{is_due}
 use Rattle.message.specs.Scanning.{Begun}
 use Rattle.message.proofs.Formats.{joined_push}
 use Rattle.message.proofs.Recoding.{whole_back}

@@ -1,5 +1,5 @@
 -- What the check of a message answers, in words of the format. Assumes nothing.
-use Rattle.std.specs.Prelude.{◌≡◌, ℕ, ◌≤◌, true, false, List, ◌++◌, length, Some, None, Ok, Err, Result}
+use Rattle.std.specs.Prelude.{◌≡◌, ℕ, ◌≤◌, true, List, [], ◌++◌, length, Ok, Err, Result}
 use Rattle.std.specs.List.{flat_map, AllByRecursion}
 use Rattle.action.specs.declared.refusals.Refusal.{Refusal}
 use Rattle.action.specs.declared.setups.Setup.{Setup}
@@ -7,7 +7,6 @@ use Rattle.action.specs.Lawful.{by_reader}
 use Rattle.kind.specs.Meaning.{Meaning}
 use Rattle.message.specs.declared.faults.ReaderFault.{ReaderFault}
 use Rattle.message.specs.declared.reading.Due.TheVariants as Due
-use Rattle.message.specs.declared.reading.Progress.{Progress}
 use Rattle.message.specs.declared.records.Header.{Header}
 use Rattle.message.specs.declared.records.Record.{Record}
 use Rattle.message.specs.declared.records.Record.TheVariants as RecordKinds
@@ -15,8 +14,7 @@ use Rattle.message.specs.Faults.{shown}
 use Rattle.message.specs.Fields.{Fitting}
 use Rattle.message.specs.Format.{Message, format, record_bytes}
 use Rattle.message.specs.Lawful.{LawfulMessage, action_count}
-use Rattle.message.specs.Progress.{named}
-use Rattle.message.specs.Reading.{is_due, onward, reading}
+use Rattle.message.specs.Rules.{InTurn, Keeps, Names, Ours, due_next, is_due}
 
 -- MESSAGES
 
@@ -35,60 +33,65 @@ Unique kind setup bytes = (m n : Message) → LawfulMessage kind setup m → Law
 
 -- BEGINNINGS
 
--- the bytes begin with those of these records, each due and lawful after those before it
-pub record Beginning (kind : Meaning) (setup : Setup) (bytes : List ℕ) (rs : List Record) (p : Progress) (rest : List ℕ) : Type 0 where
-  pub lawful : reading kind setup rs ≡ Some p
+-- the bytes begin with those of these records, each of which follows those before it
+pub record Beginning (kind : Meaning) (setup : Setup) (bytes : List ℕ) (rs : List Record) (rest : List ℕ) : Type 0 where
+  pub lawful : InTurn kind setup [] rs
   pub fitting : AllByRecursion Fitting rs
   pub front : bytes ≡ flat_map record_bytes rs ++ rest
 
 abbrev pub StartsWith : List ℕ → Record → Type 0
 StartsWith rest r = (more : List ℕ) × (rest ≡ record_bytes r ++ more)
 
+-- where the record after these stands
+abbrev pub offset : List Record → ℕ
+offset rs = length (flat_map record_bytes rs)
+
 -- REFUSALS
 
 -- 9: a record is due, and the rest starts with none of its kind
-pub record Cut (p : Progress) (at : ℕ) (rest : List ℕ) (refusal : Refusal) : Type 0 where
-  pub is : refusal ≡ by_reader 9 at
-  pub not_ended : p.due ≡ Due.End → ⊥
-  pub none : (r : Record) → is_due p.due r ≡ true → Fitting r → StartsWith rest r → ⊥
+pub record Cut (rs : List Record) (rest : List ℕ) (refusal : Refusal) : Type 0 where
+  pub is : refusal ≡ by_reader 9 (offset rs)
+  pub not_ended : due_next rs ≡ Due.End → ⊥
+  pub none : (r : Record) → is_due (due_next rs) r ≡ true → Fitting r → StartsWith rest r → ⊥
 
--- 10: the rest starts with a header of another group or kind
-pub record Foreign (kind : Meaning) (setup : Setup) (p : Progress) (rest : List ℕ) (refusal : Refusal) : Type 0 where
+-- 10: the bytes start with a header of another group or kind
+pub record Foreign (kind : Meaning) (setup : Setup) (rs : List Record) (rest : List ℕ) (refusal : Refusal) : Type 0 where
   pub is : refusal ≡ by_reader 10 0
-  pub first : p.due ≡ Due.Header
+  pub first : rs ≡ []
   pub header : Header
   pub fitting : Fitting (RecordKinds.Header header)
   pub starts : StartsWith rest (RecordKinds.Header header)
-  pub other : named kind setup header ≡ false
+  pub other : Names kind setup header → ⊥
 
--- 11: the rest starts with a record of the kind due that breaks a rule, and it is no header of another group or kind
-pub record Broken (kind : Meaning) (setup : Setup) (p : Progress) (at : ℕ) (rest : List ℕ) (refusal : Refusal) : Type 0 where
-  pub is : refusal ≡ by_reader 11 at
+-- 11: the rest starts with a record of the kind due that after these records breaks a field rule, and it is no header of
+-- another group or kind
+pub record Broken (kind : Meaning) (setup : Setup) (rs : List Record) (rest : List ℕ) (refusal : Refusal) : Type 0 where
+  pub is : refusal ≡ by_reader 11 (offset rs)
   pub breaks : Record
-  pub was_due : is_due p.due breaks ≡ true
+  pub was_due : is_due (due_next rs) breaks ≡ true
   pub fitting : Fitting breaks
   pub starts : StartsWith rest breaks
-  pub ours : (h : Header) → breaks ≡ RecordKinds.Header h → named kind setup h ≡ true
-  pub stops : onward kind setup (Some p) breaks ≡ None
+  pub ours : Ours kind setup breaks
+  pub broken : Keeps kind setup rs breaks → ⊥
 
 -- 12: the end is due, and bytes follow
-pub record Trailing (p : Progress) (at : ℕ) (rest : List ℕ) (refusal : Refusal) : Type 0 where
-  pub is : refusal ≡ by_reader 12 at
-  pub ended : p.due ≡ Due.End
+pub record Trailing (rs : List Record) (rest : List ℕ) (refusal : Refusal) : Type 0 where
+  pub is : refusal ≡ by_reader 12 (offset rs)
+  pub ended : due_next rs ≡ Due.End
   pub more : 1 ≤ length rest
 
--- why the rest of the bytes, from place at on, is refused
-pub data Reason (kind : Meaning) (setup : Setup) (p : Progress) (at : ℕ) (rest : List ℕ) (refusal : Refusal) : Type 0 where
-  cut : Cut p at rest refusal → Reason kind setup p at rest refusal
-  foreign : Foreign kind setup p rest refusal → Reason kind setup p at rest refusal
-  broken : Broken kind setup p at rest refusal → Reason kind setup p at rest refusal
-  trailing : Trailing p at rest refusal → Reason kind setup p at rest refusal
+-- why the rest of the bytes is refused, after these records
+pub data Reason (kind : Meaning) (setup : Setup) (rs : List Record) (rest : List ℕ) (refusal : Refusal) : Type 0 where
+  cut : Cut rs rest refusal → Reason kind setup rs rest refusal
+  foreign : Foreign kind setup rs rest refusal → Reason kind setup rs rest refusal
+  broken : Broken kind setup rs rest refusal → Reason kind setup rs rest refusal
+  trailing : Trailing rs rest refusal → Reason kind setup rs rest refusal
 
 -- bytes are refused after a lawful beginning, and its length is the place
 abbrev pub Refused : Meaning → Setup → List ℕ → Result ℕ ReaderFault → Type 0
 Refused kind setup bytes (Ok n) = Unit {0}
 Refused kind setup bytes (Err e) =
-    (rs : List Record) × (p : Progress) × (rest : List ℕ) × Beginning kind setup bytes rs p rest × Reason kind setup p (length (flat_map record_bytes rs)) rest (shown e)
+    (rs : List Record) × (rest : List ℕ) × Beginning kind setup bytes rs rest × Reason kind setup rs rest (shown e)
 
 -- what is refused is refused by one number at one place
 abbrev pub Once : Meaning → Setup → List ℕ → Type 0

@@ -8,5 +8,6 @@ pub mod Found
 pub mod Lawful
 pub mod Progress
 pub mod Reading
+pub mod Rules
 pub mod Scanning
 pub mod Walks

@@ -1,20 +1,19 @@
 -- How bytes are read, record by record. Assumes nothing.
-use Rattle.std.specs.Prelude.{◌≡◌, ℕ, ◌+◌, Bool, true, false, cond, List, length, drop, Some, None, Ok, Err, fold, Option, Result}
+use Rattle.std.specs.Prelude.{◌≡◌, ℕ, ◌+◌, Bool, cond, List, length, drop, Some, None, Ok, Err, fold, Option, Result}
 use Rattle.std.specs.Option.{is_some}
 use Rattle.std.specs.Result.{result_ok}
 use Rattle.action.specs.declared.setups.Setup.{Setup}
 use Rattle.kind.specs.Meaning.{Meaning}
 use Rattle.message.specs.declared.faults.Flaw.{Flaw}
 use Rattle.message.specs.declared.faults.ReaderFault.{ReaderFault}
-use Rattle.message.specs.declared.reading.Due.{Due}
 use Rattle.message.specs.declared.reading.Found.{Found}
 use Rattle.message.specs.declared.reading.Progress.{Progress}
 use Rattle.message.specs.declared.records.Record.{Record}
-use Rattle.message.specs.declared.records.Record.TheVariants as RecordKinds
 use Rattle.message.specs.Decoding.{decoded}
 use Rattle.message.specs.Faults.{fault_at}
 use Rattle.message.specs.Format.{record_bytes}
 use Rattle.message.specs.Progress.{admitted, start}
+use Rattle.message.specs.Rules.{is_due}
 use Rattle.message.specs.Walks.{its_action}
 
 -- one step from place at, with the progress so far: a record that leads on, with the progress after it, or the end; or a fault
@@ -41,14 +40,6 @@ Next kind setup p at bytes (Ok (Some f)) q to =
 Next kind setup p at bytes (Err e) q to = (step kind setup p at (drop at bytes) ≡ Err e) × (q ≡ p) × (to ≡ at)
 
 -- LISTS OF RECORDS
-
--- is the record of the kind due? None is where the end is due
-abbrev pub is_due : Due → Record → Bool
-is_due Due.Header (RecordKinds.Header _) = true
-is_due Due.Section (RecordKinds.Section _) = true
-is_due Due.Interval (RecordKinds.Interval _) = true
-is_due Due.Action (RecordKinds.Action _) = true
-is_due _ _ = false
 
 -- the progress after one more record, where it is due and lawful
 abbrev pub onward : Meaning → Setup → Option Progress → Record → Option Progress
