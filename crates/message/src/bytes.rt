@@ -1,7 +1,6 @@
 // Each record's bytes, by its kind byte and then its fields, most significant byte first; those of an
 // action are the action's own.
 ghost use Rattle.std.specs.Prelude.{◌≡◌};
-ghost use Rattle.message.specs.Decoding.{header_in, interval_in, section_in};
 ghost use Rattle.message.specs.Format.{header_bytes, interval_bytes, section_bytes};
 
 use crate::records::{Header, Interval, SectionHead};
@@ -13,19 +12,6 @@ impl Header {
         let [g1, g0] = self.group.to_be_bytes();
         [b'H', g1, g0, self.kind, self.sender, self.sections]
     }
-
-    // The header that six bytes stand for, whatever the first is.
-    pub(crate) fn from_bytes(bytes: &[u8; 6]) -> Header
-        ensures { result ≡ header_in bytes.now }
-    {
-        let [_, g1, g0, kind, sender, sections] = *bytes;
-        Header {
-            group: u16::from_be_bytes([g1, g0]),
-            kind,
-            sender,
-            sections,
-        }
-    }
 }
 
 impl SectionHead {
@@ -34,17 +20,6 @@ impl SectionHead {
     {
         let [a1, a0] = self.actions.to_be_bytes();
         [b'S', self.article, self.intervals, a1, a0]
-    }
-
-    pub(crate) fn from_bytes(bytes: &[u8; 5]) -> SectionHead
-        ensures { result ≡ section_in bytes.now }
-    {
-        let [_, article, intervals, a1, a0] = *bytes;
-        SectionHead {
-            article,
-            intervals,
-            actions: u16::from_be_bytes([a1, a0]),
-        }
     }
 }
 
@@ -55,16 +30,5 @@ impl Interval {
         let [f3, f2, f1, f0] = self.from.to_be_bytes();
         let [t3, t2, t1, t0] = self.to.to_be_bytes();
         [b'I', self.site, f3, f2, f1, f0, t3, t2, t1, t0]
-    }
-
-    pub(crate) fn from_bytes(bytes: &[u8; 10]) -> Interval
-        ensures { result ≡ interval_in bytes.now }
-    {
-        let [_, site, f3, f2, f1, f0, t3, t2, t1, t0] = *bytes;
-        Interval {
-            site,
-            from: u32::from_be_bytes([f3, f2, f1, f0]),
-            to: u32::from_be_bytes([t3, t2, t1, t0]),
-        }
     }
 }

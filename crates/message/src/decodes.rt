@@ -1,19 +1,10 @@
-ghost use Rattle.std.specs.Prelude.{◌≡◌, ◌<◌, ◌≤◌, length, MatchResult};
-ghost use Rattle.std.specs.Array.{IsFirstChunk};
+ghost use Rattle.std.specs.Prelude.{◌≡◌, ◌≤◌, length};
 ghost use Rattle.message.specs.Decoding.{decoded, size_of, whole};
 
 use crate::faults::Flaw;
 use crate::reading::Due;
 use crate::records::{Header, Interval, Record, SectionHead};
 use action::Action;
-
-// The bytes of one record, where they are enough.
-fn front<const N: usize>(bytes: &[u8]) -> Result<&[u8; N], Flaw>
-    requires { 0 < N }
-    ensures { MatchResult result (λ front. (N ≤ length bytes.now) × IsFirstChunk bytes.now front.now N) (λ flaw. (length bytes.now < N) × (flaw ≡ Flaw.Cut)) }
-{
-    bytes.first_chunk().ok_or(Flaw::Cut)
-}
 
 // The record that the bytes begin with, where one of this kind is due; `None` where the end is due
 // and there.
@@ -23,10 +14,53 @@ pub(crate) fn decode(due: Due, bytes: &[u8]) -> Result<Option<Record>, Flaw>
     ensures fits { size_of (whole result) ≤ length bytes.now }
 {
     let record = match (due, bytes) {
-        (Due::Header, [b'H', ..]) => Record::Header(Header::from_bytes(front(bytes)?)),
-        (Due::Section, [b'S', ..]) => Record::Section(SectionHead::from_bytes(front(bytes)?)),
-        (Due::Interval, [b'I', ..]) => Record::Interval(Interval::from_bytes(front(bytes)?)),
-        (Due::Action, [b'A', ..]) => Record::Action(Action::from_bytes(front(bytes)?)),
+        (Due::Header, &[b'H', g1, g0, kind, sender, sections, ..]) => Record::Header(Header {
+            group: u16::from_be_bytes([g1, g0]),
+            kind,
+            sender,
+            sections,
+        }),
+        (Due::Section, &[b'S', article, intervals, a1, a0, ..]) => Record::Section(SectionHead {
+            article,
+            intervals,
+            actions: u16::from_be_bytes([a1, a0]),
+        }),
+        (Due::Interval, &[b'I', site, f3, f2, f1, f0, t3, t2, t1, t0, ..]) => {
+            Record::Interval(Interval {
+                site,
+                from: u32::from_be_bytes([f3, f2, f1, f0]),
+                to: u32::from_be_bytes([t3, t2, t1, t0]),
+            })
+        }
+        (
+            Due::Action,
+            &[
+                b'A',
+                coordinator,
+                t3,
+                t2,
+                t1,
+                t0,
+                n3,
+                n2,
+                n1,
+                n0,
+                article,
+                operation,
+                a3,
+                a2,
+                a1,
+                a0,
+                ..
+            ],
+        ) => Record::Action(Action {
+            coordinator,
+            time: u32::from_be_bytes([t3, t2, t1, t0]),
+            transaction: u32::from_be_bytes([n3, n2, n1, n0]),
+            article,
+            operation,
+            amount: i32::from_be_bytes([a3, a2, a1, a0]),
+        }),
         (Due::End, []) => return Ok(None),
         (Due::End, _) => return Err(Flaw::Trailing),
         _ => return Err(Flaw::Cut),
