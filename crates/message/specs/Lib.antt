@@ -7,6 +7,7 @@ pub mod Format
 pub mod Found
 pub mod Lawful
 pub mod Progress
+pub mod ReadBack
 pub mod Reading
 pub mod Rules
 pub mod Scanning

@@ -16,7 +16,9 @@ ghost use Rattle.std.specs.Iterator.Runs.{YieldsInOrder};
 ghost use Rattle.action.specs.declared.orders.Action.{Action};
 ghost use Rattle.message.specs.declared.reading.Found.{Found};
 ghost use Rattle.message.specs.declared.reading.Stretch.{Stretch};
-ghost use Rattle.message.specs.Found.{actions_among, found_from, found_in, stretches_among, stretches_in, told};
+ghost use Rattle.message.specs.Format.{Message, carried, records, told_intervals};
+ghost use Rattle.message.specs.Found.{actions_among, found_from, found_in, placed, stretches_among, stretches_in, told};
+ghost use Rattle.message.specs.ReadBack.{IsMessage};
 ghost use Rattle.message.specs.Walks.{actions_of, intervals_of, records_in};
 
 use crate::reading::{Found, Stretch};
@@ -44,6 +46,7 @@ impl<'a> Records<'a> {
     // All records of the message, up to where none begins.
     pub fn new(bytes: &'a [u8]) -> Records<'a>
         ensures left { result ≡ found_in bytes.now }
+        ensures reads_back { (m : Message) → IsMessage bytes.now m → result ≡ placed 0 (records m) }
         ensures few { length result ≤ length bytes.now }
         ensures runs { YieldsInOrder (YieldsFirst {A = Found} (λ left. left)) (λ left. left) }
     {
@@ -85,6 +88,10 @@ impl<'a> Intervals<'a> {
     pub fn new(bytes: &'a [u8]) -> Intervals<'a>
         ensures left { result ≡ stretches_in bytes.now }
         ensures told { map told result ≡ intervals_of 0 (records_in bytes.now) }
+        ensures reads_back { (m : Message) → IsMessage bytes.now m
+            → map told result ≡ told_intervals m }
+        ensures places { (m : Message) → IsMessage bytes.now m
+            → result ≡ stretches_among 0 (placed 0 (records m)) }
         ensures few { length result ≤ length bytes.now }
         ensures runs { YieldsInOrder (YieldsFirst {A = Stretch} (λ left. left)) (λ left. left) }
     {
@@ -133,6 +140,7 @@ impl<'a> Actions<'a> {
     // All actions of the message.
     pub fn new(bytes: &'a [u8]) -> Actions<'a>
         ensures left { result ≡ actions_of (records_in bytes.now) }
+        ensures reads_back { (m : Message) → IsMessage bytes.now m → result ≡ carried m }
         ensures few { length result ≤ length bytes.now }
         ensures runs { YieldsInOrder (YieldsFirst {A = Action} (λ left. left)) (λ left. left) }
     {

@@ -1,5 +1,9 @@
 ghost use Rattle.std.specs.Prelude.{◌≡◌};
+ghost use Rattle.kind.specs.Meaning.{Meaning};
+ghost use Rattle.message.specs.Format.{Message, records};
+ghost use Rattle.message.specs.Found.{placed};
 ghost use Rattle.message.specs.Progress.{start};
+ghost use Rattle.message.specs.ReadBack.{IsMessageFor, Yields};
 ghost use Rattle.message.specs.Reading.{Next};
 
 use crate::cursor::Reader;
@@ -16,6 +20,8 @@ impl<'a> Reader<'a> {
         ensures bytes { result.bytes.now ≡ bytes.now }
         ensures at { result.at ≡ 0 }
         ensures progress { result.progress ≡ start }
+        ensures reads_back { (kind : Meaning) (m : Message) → IsMessageFor kind setup bytes.now m
+            → Yields kind result.setup result.bytes.now result.progress result.at (placed 0 (records m)) }
     {
         Reader {
             setup,

@@ -1,5 +1,7 @@
 ghost use Rattle.std.specs.Prelude.{◌≡◌, ◌+◌, ◌≤◌, length, drop};
 ghost use Rattle.message.specs.Decoding.{size_of};
+ghost use Rattle.message.specs.Format.{Message};
+ghost use Rattle.message.specs.ReadBack.{IsMessage};
 ghost use Rattle.message.specs.Walks.{article_after, its_action, its_interval, its_sender, record_in};
 
 use crate::decodes::decode;
@@ -36,7 +38,8 @@ fn first_record(bytes: &[u8]) -> Option<Record>
 // Who sent the message; 0 where the bytes begin with no header. An `Option` would be unwrapped by its one
 // caller, which asks it of messages that have been checked.
 pub fn sender_of(bytes: &[u8]) -> u8
-    ensures { result ≡ its_sender (record_in bytes.now) }
+    ensures value { result ≡ its_sender (record_in bytes.now) }
+    ensures reads_back { (m : Message) → IsMessage bytes.now m → result ≡ m.sender }
 {
     match record_at(bytes, 0) {
         Some(Record::Header(header)) => header.sender,
