@@ -15,9 +15,10 @@ use Rattle.table.specs.View.{View, entry}
 use Rattle.runs.specs.Books.{Book, book, greatest, greatest_of}
 use Rattle.runs.specs.Events.{Call, Event, wrote}
 use Rattle.runs.specs.Events.Call.{Opens, Writes, Commits, Abandons, Offers, Takes, Archives}
+use Rattle.runs.specs.Laws.{CarriesAll, Credits, IsTruthful, Sent, Told}
 use Rattle.runs.specs.Runs.{Group, Turn}
 use Rattle.runs.proofs.Greatest.{greatest_ge}
-use Rattle.runs.proofs.Standing.{Absorbed, Account, Credits, Everywhere, Gathered, Recorded, Sent, Site, Standing, Told, Truthful}
+use Rattle.runs.proofs.Standing.{Absorbed, Account, Everywhere, Gathered, Recorded, Site, Standing}
 
 -- an action that the site commits now: it is later than all that the site has
 pub record New (group : Group) (s : ℕ) (b after : Book) (x : Action) : Type 0 where
@@ -36,6 +37,30 @@ pub record Grown (group : Group) (s : ℕ) (b after : Book) : Type 0 where
   pub others : (z : ℕ) → (z ≡ s → ⊥) → after.reach z ≡ b.reach z
   pub others_pending : (z : ℕ) → (z ≡ s → ⊥) → after.pending z ≡ b.pending z
   pub no_more : (a q : ℕ) → a < group.articles → q < group.sites → after.reach s a q ≤ after.reach q a q
+
+-- WHAT WAS ARCHIVED
+
+-- where no entry is lowered it stays known to be everywhere
+pub still_everywhere : (group : Group) (v w : View) → ((a z q : ℕ) → entry v a z q ≤ entry w a z q) → (a : ℕ) (xs : List Action) → AllByRecursion (Everywhere group v a) xs → AllByRecursion (Everywhere group w a) xs
+still_everywhere group v w kept a = All-weaker (Everywhere group v a) (Everywhere group w a) (λ x h z q zl ql. omega (arith, h z q zl ql, kept a z q))
+
+-- WHAT WAS TAKEN
+
+module _ (kind : Meaning) (group : Group) (s : ℕ) (v w : View) (kept : (a z q : ℕ) → entry v a z q ≤ entry w a z q) where
+  credits_still : (z : ℕ) (m : Message) → Credits v z m → Credits w z m
+  credits_still z m c = All-weaker (λ h. h.1.to ≤ entry v h.0 z h.1.site) (λ h. h.1.to ≤ entry w h.0 z h.1.site) (λ h k. omega (arith, k, kept h.0 z h.1.site)) (told_intervals m) c
+
+  pub absorbed_still : (call : Call) → Absorbed kind group s v call → Absorbed kind group s w call
+  absorbed_still (Opens r) h = tt
+  absorbed_still (Writes t article operation amount r) h = tt
+  absorbed_still (Commits t buffer r after) h = tt
+  absorbed_still (Abandons t r) h = tt
+  absorbed_still (Offers peer article buffer r after) h = tt
+  absorbed_still (Takes bytes (Ok n)) h = (h.0, h.1, credits_still s h.0 h.2, credits_still h.0.sender h.0 h.3)
+  absorbed_still (Takes bytes (Err e)) h = tt
+  absorbed_still (Archives article r) h = tt
+
+-- THE BOOK AND THE OTHER SITES
 
 module _ (kind : Meaning) (group : Group) (s : ℕ) (of_group : s < group.sites) (b after : Book) (g : Grown group s b after) (l : Account group b) where
   other_reach : (z a q : ℕ) → (z ≡ s → ⊥) → after.reach z a q ≡ b.reach z a q
@@ -123,7 +148,7 @@ module _ (kind : Meaning) (group : Group) (s : ℕ) (of_group : s < group.sites)
 
   -- MESSAGES
 
-  module _ (bytes : List ℕ) (m : Message) (sent : Sent kind group bytes m) where
+  module _ (old views : ℕ → View) (sites : (z : ℕ) → z < group.sites → Site kind group b z (old z)) (keeps : (z : ℕ) → z < group.sites → (a y q : ℕ) → entry (old z) a y q ≤ entry (views z) a y q) (bytes : List ℕ) (m : Message) (sent : Sent kind group bytes m) where
     -- each interval is of the group
     abbrev Listed : ℕ × Interval → Type 0
     Listed h = (h.0 < group.articles) × (h.1.site < group.sites)
@@ -137,44 +162,24 @@ module _ (kind : Meaning) (group : Group) (s : ℕ) (of_group : s < group.sites)
     sender_lt : m.sender < group.sites
     sender_lt = subst (λ (n : ℕ). m.sender < n) (group.agrees s of_group).sites_are (sent.lawful s of_group).sent
 
-    still_true : Truthful b m → Truthful after m
+    still_true : IsTruthful b old m → IsTruthful after views m
     still_true t = record {
-      sender_has = All-weaker (λ h. h.1.to ≤ b.reach m.sender h.0 h.1.site) (λ h. h.1.to ≤ after.reach m.sender h.0 h.1.site) (λ h k. omega (arith, k, reach_grows m.sender h.0 h.1.site)) (told_intervals m) t.sender_has;
-      whole = all_from_has _ (told_intervals m) (λ h k x has on_it of_it after_from up_to.
+      committed = All-weaker (Has b.committed) (Has after.committed) was_committed (carried m) t.committed;
+      whole = all_from_has (CarriesAll after m) (told_intervals m) (λ h k x has on_it in_it.
           ⊎_elim
-          (λ old. all-has _ (told_intervals m) h t.whole k x old on_it of_it after_from up_to)
+          (λ before. all-has (CarriesAll b m) (told_intervals m) h t.whole k x before on_it in_it)
           (λ n.
-          let mine : h.1.site ≡ s = sym of_it ∙ n.own in
-          let within : h.1.to ≤ b.reach m.sender h.0 s = subst (λ (q : ℕ). h.1.to ≤ b.reach m.sender h.0 q) mine (all-has (λ h. h.1.to ≤ b.reach m.sender h.0 h.1.site) (told_intervals m) h t.sender_has k) in
-          absurd (beyond_old x n m.sender h.0 h.1.to sender_lt (all-has Listed (told_intervals m) h listed k).0 within up_to))
+          let known = all-has Listed (told_intervals m) h listed k in
+          let mine : h.1.site ≡ s = in_it.0 ∙ n.own in
+          let shown : h.1.to ≤ entry (old m.sender) h.0 m.sender h.1.site = all-has (λ h. h.1.to ≤ entry (old m.sender) h.0 m.sender h.1.site) (told_intervals m) h t.sender_has k in
+          let had : h.1.to ≤ b.reach m.sender h.0 h.1.site = omega (arith, shown, (sites m.sender sender_lt).vector h.0 h.1.site known.0 known.1) in
+          absurd (beyond_old x n m.sender h.0 h.1.to sender_lt known.0 (subst (λ (q : ℕ). h.1.to ≤ b.reach m.sender h.0 q) mine had) in_it.2))
           (now_committed x has));
-      sure = All-weaker (Has b.committed) (Has after.committed) was_committed (carried m) t.sure;
+      sender_has = credits_still kind group s (old m.sender) (views m.sender) (keeps m.sender sender_lt) m.sender m t.sender_has;
     }
 
-  pub still_told : (bytes : List ℕ) → Told kind group b bytes → Told kind group after bytes
-  still_told bytes = ⊎_elim (λ none. inl none) (λ h. inr (h.0, h.1, still_true bytes h.0 h.1 h.2))
-
--- WHAT WAS ARCHIVED
-
--- where no entry is lowered it stays known to be everywhere
-pub still_everywhere : (group : Group) (v w : View) → ((a z q : ℕ) → entry v a z q ≤ entry w a z q) → (a : ℕ) (xs : List Action) → AllByRecursion (Everywhere group v a) xs → AllByRecursion (Everywhere group w a) xs
-still_everywhere group v w kept a = All-weaker (Everywhere group v a) (Everywhere group w a) (λ x h z q zl ql. omega (arith, h z q zl ql, kept a z q))
-
--- WHAT WAS TAKEN
-
-module _ (kind : Meaning) (group : Group) (s : ℕ) (v w : View) (kept : (a z q : ℕ) → entry v a z q ≤ entry w a z q) where
-  credits_still : (z : ℕ) (m : Message) → Credits v z m → Credits w z m
-  credits_still z m c = All-weaker (λ h. h.1.to ≤ entry v h.0 z h.1.site) (λ h. h.1.to ≤ entry w h.0 z h.1.site) (λ h k. omega (arith, k, kept h.0 z h.1.site)) (told_intervals m) c
-
-  pub absorbed_still : (call : Call) → Absorbed kind group s v call → Absorbed kind group s w call
-  absorbed_still (Opens r) h = tt
-  absorbed_still (Writes t article operation amount r) h = tt
-  absorbed_still (Commits t buffer r after) h = tt
-  absorbed_still (Abandons t r) h = tt
-  absorbed_still (Offers peer article buffer r after) h = tt
-  absorbed_still (Takes bytes (Ok n)) h = (h.0, h.1, credits_still s h.0 h.2, credits_still h.0.sender h.0 h.3)
-  absorbed_still (Takes bytes (Err e)) h = tt
-  absorbed_still (Archives article r) h = tt
+  pub still_told : (old views : ℕ → View) → ((z : ℕ) → z < group.sites → Site kind group b z (old z)) → ((z : ℕ) → z < group.sites → (a y q : ℕ) → entry (old z) a y q ≤ entry (views z) a y q) → (bytes : List ℕ) → Told kind group b old bytes → Told kind group after views bytes
+  still_told old views sites keeps bytes = ⊎_elim (λ none. inl none) (λ h. inr (h.0, h.1, still_true old views sites keeps bytes h.0 h.1 h.2))
 
 -- ALL SITES
 
@@ -183,7 +188,7 @@ module _ (kind : Meaning) (group : Group) (before : List Event) (event : Event) 
   s = event.site
 
   -- the event's site is to be shown to stand, and no entry of it to be lowered
-  pub stands_after : Grown group s (book group before) (book group (event ∷ before)) → Site kind group (book group (event ∷ before)) s (views s) → ((a z q : ℕ) → entry (old s) a z q ≤ entry (views s) a z q) → Told kind group (book group (event ∷ before)) (wrote event.call) → Absorbed kind group s (views s) event.call → Standing kind group (event ∷ before) views
+  pub stands_after : Grown group s (book group before) (book group (event ∷ before)) → Site kind group (book group (event ∷ before)) s (views s) → ((a z q : ℕ) → entry (old s) a z q ≤ entry (views s) a z q) → Told kind group (book group (event ∷ before)) views (wrote event.call) → Absorbed kind group s (views s) event.call → Standing kind group (event ∷ before) views
   stands_after g site kept told absorbed = record {
     sites = λ z zl.
         ⊎_elim
@@ -191,7 +196,7 @@ module _ (kind : Meaning) (group : Group) (before : List Event) (event : Event) 
         (λ ne. subst (Site kind group after z) (sym (turn.others z zl ne)) (other_site kind group s of_group b after g st.account z zl ne (old z) (st.sites z zl)))
         (cases_eq z s);
     account = account_after kind group s of_group b after g st.account;
-    told = (told, All-weaker (λ (l : Event). Told kind group b (wrote l.call)) (λ (l : Event). Told kind group after (wrote l.call)) (λ l. still_told kind group s of_group b after g st.account (wrote l.call)) before st.told);
+    told = (told, All-weaker (λ (l : Event). Told kind group b old (wrote l.call)) (λ (l : Event). Told kind group after views (wrote l.call)) (λ l. still_told kind group s of_group b after g st.account old views st.sites keeps (wrote l.call)) before st.told);
     absorbed = ((of_group, absorbed), All-weaker _ (λ (l : Event). (l.site < group.sites) × Absorbed kind group l.site (views l.site) l.call) (λ l h. (h.0, absorbed_still kind group l.site (old l.site) (views l.site) (keeps l.site h.0) l.call h.1)) before st.absorbed);
   }
     where

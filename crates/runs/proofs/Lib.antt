@@ -12,4 +12,5 @@ pub mod Sites
 pub mod Standing
 pub mod Taking
 pub mod Transactions
+pub mod Truth
 pub mod Writing

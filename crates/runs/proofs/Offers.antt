@@ -1,5 +1,5 @@
 -- The step of offer: what it writes is a true message. Assumes nothing.
-use Rattle.std.proofs.Common.{◌≡◌, ℕ, ◌<◌, ◌≤◌, true, eqb, ltb, List, [], ◌∷◌, map, take, Ok, Err, filter, Result, sym, refl, subst, inl, inr, ⊎_elim, arith}
+use Rattle.std.proofs.Common.{◌≡◌, ℕ, ◌<◌, ◌≤◌, true, eqb, ltb, List, [], ◌∷◌, map, take, Ok, Err, filter, Result, refl, ap, ◌∙◌, subst, inl, inr, ⊎_elim, arith}
 use Rattle.std.specs.List.{range_with_len, ContainsAt as Has, AllByRecursion}
 use Rattle.std.proofs.ByRecursion.{All-append, all-has, All-map, All-weaker, has_append_left, has_append_right}
 use Rattle.std.proofs.lemmas.Bool.{and_from, and_parts, eq-eqb, le-leb, lt-ltb, ltb-true}
@@ -18,10 +18,11 @@ use Rattle.table.proofs.Soundness.{passed}
 use Rattle.runs.specs.Books.{Book, book}
 use Rattle.runs.specs.Events.{Event, at}
 use Rattle.runs.specs.Events.Call.{Offers}
+use Rattle.runs.specs.Laws.{CarriesAll, IsTruthful}
 use Rattle.runs.specs.Runs.{Group, Turn}
 use Rattle.runs.proofs.Opening.{stands_still}
 use Rattle.runs.proofs.Sites.{articles_are, lawful_anywhere, own_entry, own_is, sites_are}
-use Rattle.runs.proofs.Standing.{Account, Reached, Recorded, Site, Standing, Truthful}
+use Rattle.runs.proofs.Standing.{Account, Reached, Recorded, Site, Standing}
 use Rattle.runs.proofs.Writing.{written_back}
 
 module _ (kind : Meaning) (group : Group) (b : Book) (s : ℕ) (of_group : s < group.sites) (v : View) (site : Site kind group b s v) (p a : ℕ) (pl : p < group.sites) (al : a < group.articles) where
@@ -50,17 +51,17 @@ module _ (kind : Meaning) (group : Group) (b : Book) (s : ℕ) (of_group : s < g
       (λ k. has_kept_by (is_offered v p a) v.history x (has_kept_by_parts (λ y. eqb y.article a) v.history x k).0 passes)
       (has_append_cases g.archived (on a v.history) x (g.whole x h)))
 
-  offer_true : Account group b → Truthful b m
-  offer_true l = record {
-    sender_has = each_interval (λ h. h.1.to ≤ b.reach own h.0 h.1.site) (λ q ql.
-        subst (λ (n : ℕ). entry v a own q ≤ b.reach n a q) (sym (own_is kind group b s of_group v site)) (omega (arith, own_entry kind group b s of_group v site a q al ql)));
-    whole = each_interval (λ h. (x : Action) → Has b.committed x → x.article ≡ h.0 → x.coordinator ≡ h.1.site → h.1.from < x.time → x.time ≤ h.1.to → Has (carried m) x) (λ q ql x has on_it of_it above up_to.
-        offered x (has, on_it, subst (λ (n : ℕ). x.time ≤ b.reach s a n) (sym of_it) (omega (arith, up_to, own_entry kind group b s of_group v site a q al ql))) (all-has (Recorded group b) b.committed x l.each has).coordinated (subst (λ (n : ℕ). entry v a p n < x.time) (sym of_it) above));
-    sure = All-append (Has b.committed) (filter (is_offered v p a) v.history) [] (all_from_has (Has b.committed) (filter (is_offered v p a) v.history) (λ x h.
+  offer_true : Account group b → (views : ℕ → View) → views s ≡ v → IsTruthful b views m
+  offer_true l views same = record {
+    committed = All-append (Has b.committed) (filter (is_offered v p a) v.history) [] (all_from_has (Has b.committed) (filter (is_offered v p a) v.history) (λ x h.
         let parts = has_kept_by_parts (is_offered v p a) v.history x h in
         let on_it = (and_parts (eqb x.article a) _ parts.1).0 in
         let g = site.gathered a al in
         (g.sure x (has_append_right g.archived (on a v.history) x (has_kept_by (λ y. eqb y.article a) v.history x parts.0 on_it))).0)) tt;
+    whole = each_interval (CarriesAll b m) (λ q ql x has on_it in_it.
+        offered x (has, on_it, subst (λ (n : ℕ). x.time ≤ b.reach s a n) in_it.0 (omega (arith, in_it.2, own_entry kind group b s of_group v site a q al ql))) (all-has (Recorded group b) b.committed x l.each has).coordinated (subst (λ (n : ℕ). entry v a p n < x.time) in_it.0 in_it.1));
+    sender_has = each_interval (λ h. h.1.to ≤ entry (views own) h.0 own h.1.site) (λ q ql.
+        omega (arith, ap (λ (u : View). entry u a own q) (ap views (own_is kind group b s of_group v site) ∙ same)));
   }
 
 module _ (kind : Meaning) (group : Group) (before : List Event) (s : ℕ) (old views : ℕ → View) (st : Standing kind group before old) where
@@ -80,6 +81,6 @@ module _ (kind : Meaning) (group : Group) (before : List Event) (s : ℕ) (old v
       (inr (
         offer_message kind v peer article,
         record { is = bytes; lawful = lawful_anywhere kind group b s of_group v site (offer_message kind v peer article) (offer_lawful kind v site.sound peer article al) },
-        offer_true kind group b s of_group v site peer article (omega (arith, pl, sites_are kind group b s of_group v site)) (omega (arith, al, articles_are kind group b s of_group v site)) st.account,
+        offer_true kind group b s of_group v site peer article (omega (arith, pl, sites_are kind group b s of_group v site)) (omega (arith, al, articles_are kind group b s of_group v site)) st.account views turn.does.1,
       ))
       tt

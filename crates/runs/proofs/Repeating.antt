@@ -23,10 +23,10 @@ use Rattle.table.proofs.Greatest.{greatest_from, greatest_le}
 use Rattle.row.proofs.RowLaws.{by_rows, raised_within}
 use Rattle.runs.specs.Events.{Event}
 use Rattle.runs.specs.Events.Call.{Takes}
-use Rattle.runs.specs.Laws.{RepeatsChangeNothing}
+use Rattle.runs.specs.Laws.{Credits, RepeatsChangeNothing}
 use Rattle.runs.specs.Runs.{Group}
 use Rattle.runs.proofs.Sites.{own_is}
-use Rattle.runs.proofs.Standing.{Absorbed, Credits, Standing}
+use Rattle.runs.proofs.Standing.{Absorbed, Standing}
 
 -- intervals that two rows of entries have reached raise neither
 told_again : (own sender : ℕ) (known : List (List ℕ)) (hs : List (ℕ × Interval)) → AllByRecursion (λ h. (h.1.to ≤ at known own h.1.site) × (h.1.to ≤ at known sender h.1.site)) hs → fold (raised_by own sender) known hs ≡ known

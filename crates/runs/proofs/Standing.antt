@@ -1,17 +1,17 @@
 -- What holds after every event of a run. Assumes nothing.
-use Rattle.std.proofs.Common.{◌≡◌, ℕ, ◌<◌, ◌≤◌, ◌⊎◌, List, [], ◌++◌, Ok, Err}
+use Rattle.std.proofs.Common.{◌≡◌, ℕ, ◌<◌, ◌≤◌, List, ◌++◌, Ok, Err}
 use Rattle.std.specs.List.{ContainsAt as Has, AllByRecursion}
 use Rattle.action.specs.declared.orders.Action.{Action}
 use Rattle.action.specs.Order.{Ascending, Distinct}
 use Rattle.kind.specs.Meaning.{Meaning}
 use Rattle.kind.specs.Working.{on, working}
-use Rattle.message.specs.Format.{Message, carried, format, told_intervals}
-use Rattle.message.specs.Lawful.{LawfulMessage}
+use Rattle.message.specs.Format.{Message}
 use Rattle.table.specs.Sound.{Sound}
 use Rattle.table.specs.View.{View, entry, row}
 use Rattle.runs.specs.Books.{Book, book, greatest}
 use Rattle.runs.specs.Events.{Call, Event, wrote}
 use Rattle.runs.specs.Events.Call.{Opens, Writes, Commits, Abandons, Offers, Takes, Archives}
+use Rattle.runs.specs.Laws.{Credits, Sent, Told}
 use Rattle.runs.specs.Runs.{Group}
 
 -- THE BOOK
@@ -61,25 +61,6 @@ pub record Site (kind : Meaning) (group : Group) (b : Book) (s : ℕ) (v : View)
 
 -- MESSAGES
 
--- the bytes are this message, which every site may read
-pub record Sent (kind : Meaning) (group : Group) (bytes : List ℕ) (m : Message) : Type 0 where
-  pub is : bytes ≡ format m
-  pub lawful : (s : ℕ) → s < group.sites → LawfulMessage kind (group.setup s) m
-
--- its sender has what its intervals say, and it carries just the committed actions in them
-pub record Truthful (b : Book) (m : Message) : Type 0 where
-  pub sender_has : AllByRecursion (λ h. h.1.to ≤ b.reach m.sender h.0 h.1.site) (told_intervals m)
-  pub whole : AllByRecursion (λ h. (x : Action) → Has b.committed x → x.article ≡ h.0 → x.coordinator ≡ h.1.site → h.1.from < x.time → x.time ≤ h.1.to → Has (carried m) x) (told_intervals m)
-  pub sure : AllByRecursion (Has b.committed) (carried m)
-
--- what an event wrote: nothing, or a true message
-abbrev pub Told : Meaning → Group → Book → List ℕ → Type 0
-Told kind group b bytes = (bytes ≡ []) ⊎ ((m : Message) × Sent kind group bytes m × Truthful b m)
-
--- this table knows that site z has all that the message's intervals say
-abbrev pub Credits : View → ℕ → Message → Type 0
-Credits v z m = AllByRecursion (λ h. h.1.to ≤ entry v h.0 z h.1.site) (told_intervals m)
-
 -- what a site has taken, it knows to be its own and the sender's
 abbrev pub Absorbed : Meaning → Group → ℕ → View → Call → Type 0
 Absorbed kind group s v (Opens r) = Unit {0}
@@ -96,5 +77,5 @@ Absorbed kind group s v (Archives article r) = Unit {0}
 pub record Standing (kind : Meaning) (group : Group) (events : List Event) (views : ℕ → View) : Type 0 where
   pub sites : (s : ℕ) → s < group.sites → Site kind group (book group events) s (views s)
   pub account : Account group (book group events)
-  pub told : AllByRecursion (λ event. Told kind group (book group events) (wrote event.call)) events
+  pub told : AllByRecursion (λ event. Told kind group (book group events) views (wrote event.call)) events
   pub absorbed : AllByRecursion (λ event. (event.site < group.sites) × Absorbed kind group event.site (views event.site) event.call) events

@@ -33,15 +33,16 @@ use Rattle.table.proofs.Taken.{begun_within, news_above, take_keeps, taken_ge, t
 use Rattle.runs.specs.Books.{Book, book, greatest, reaching, taken_times}
 use Rattle.runs.specs.Events.{Event, at, wrote}
 use Rattle.runs.specs.Events.Call.{Takes}
+use Rattle.runs.specs.Laws.{CarriesAll, Credits, IsTruthful, Sent, Told}
 use Rattle.runs.specs.Runs.{Group, Turn}
 use Rattle.runs.proofs.Greatest.{greatest_ge, greatest_le}
 use Rattle.runs.proofs.Growing.{Grown, stands_after, still_everywhere}
 use Rattle.runs.proofs.Opening.{stands_still}
 use Rattle.runs.proofs.Sites.{articles_are, own_entry, own_is, sites_are}
-use Rattle.runs.proofs.Standing.{Account, Credits, Everywhere, Gathered, Reached, Recorded, Sent, Site, Standing, Told, Truthful}
+use Rattle.runs.proofs.Standing.{Account, Everywhere, Gathered, Reached, Recorded, Site, Standing}
 
 -- the site takes this message, which is true, and reaches the times that its intervals say
-module _ (kind : Meaning) (group : Group) (s : ℕ) (b : Book) (v : View) (m : Message) (times : ℕ → ℕ → ℕ) (of_group : s < group.sites) (site : Site kind group b s v) (lawful : LawfulMessage kind v.setup m) (truthful : Truthful b m) (times_are : (a q : ℕ) → times a q ≡ highest a q (told_intervals m)) where
+module _ (kind : Meaning) (group : Group) (s : ℕ) (b : Book) (v : View) (m : Message) (times : ℕ → ℕ → ℕ) (of_group : s < group.sites) (site : Site kind group b s v) (lawful : LawfulMessage kind v.setup m) (views : ℕ → View) (all_sites : (z : ℕ) → z < group.sites → Site kind group b z (views z)) (truthful : IsTruthful b views m) (times_are : (a q : ℕ) → times a q ≡ highest a q (told_intervals m)) where
   abbrev after : Book
   after = reaching s times b
 
@@ -78,11 +79,22 @@ module _ (kind : Meaning) (group : Group) (s : ℕ) (b : Book) (v : View) (m : M
   reach_grows : (z a q : ℕ) → b.reach z a q ≤ after.reach z a q
   reach_grows z a q = cond_both (eqb z s) _ _ (λ (n : ℕ). b.reach z a q ≤ n) (λ _. omega arith) (λ _. omega arith)
 
+  -- an interval of the message is of the group
+  interval_of_group : (h : ℕ × Interval) → Has (told_intervals m) h → (h.0 < group.articles) × (h.1.site < group.sites)
+  interval_of_group h k =
+      let law = all-has (λ h. (h.0 < v.setup.articles) × LawfulInterval v.setup h.1) (told_intervals m) h (told_intervals_lawful kind v.setup m lawful) k in
+      (omega (arith, law.0, articles_are kind group b s of_group v site), omega (arith, law.1.of_group, sites))
+
   -- the sender has all of it
+  sender_reached : (h : ℕ × Interval) → Has (told_intervals m) h → h.1.to ≤ b.reach m.sender h.0 h.1.site
+  sender_reached h k =
+      let of = interval_of_group h k in
+      omega (arith, all-has (λ h. h.1.to ≤ entry (views m.sender) h.0 m.sender h.1.site) (told_intervals m) h truthful.sender_has k, (all_sites m.sender sender_lt).vector h.0 h.1.site of.0 of.1)
+
   far_le : (a q : ℕ) → far a q ≤ b.reach m.sender a q
   far_le a q =
-      highest_le a q (told_intervals m) (b.reach m.sender a q) (All-weaker (λ h. h.1.to ≤ b.reach m.sender h.0 h.1.site) (λ h. (h.0 ≡ a) → (h.1.site ≡ q) → h.1.to ≤ b.reach m.sender a q) (λ h k on_it of_it.
-      subst (λ (n : ℕ). h.1.to ≤ b.reach m.sender a n) of_it (subst (λ (n : ℕ). h.1.to ≤ b.reach m.sender n h.1.site) on_it k)) (told_intervals m) truthful.sender_has)
+      highest_le a q (told_intervals m) (b.reach m.sender a q) (all_from_has (λ h. (h.0 ≡ a) → (h.1.site ≡ q) → h.1.to ≤ b.reach m.sender a q) (told_intervals m) (λ h k on_it of_it.
+      subst (λ (n : ℕ). h.1.to ≤ b.reach m.sender a n) of_it (subst (λ (n : ℕ). h.1.to ≤ b.reach m.sender n h.1.site) on_it (sender_reached h k))))
 
   pub take_grows : Account group b → Grown group s b after
   take_grows account = record {
@@ -100,12 +112,6 @@ module _ (kind : Meaning) (group : Group) (s : ℕ) (b : Book) (v : View) (m : M
 
   vector : (a q : ℕ) → a < group.articles → q < group.sites → entry w a s q ≡ after.reach s a q
   vector a q al ql = omega (arith, told a s q (inl (sym own_s)), reach_own a q, site.vector a q al ql)
-
-  -- an interval of the message is of the group
-  interval_of_group : (h : ℕ × Interval) → Has (told_intervals m) h → (h.0 < group.articles) × (h.1.site < group.sites)
-  interval_of_group h k =
-      let law = all-has (λ h. (h.0 < v.setup.articles) × LawfulInterval v.setup h.1) (told_intervals m) h (told_intervals_lawful kind v.setup m lawful) k in
-      (omega (arith, law.0, articles_are kind group b s of_group v site), omega (arith, law.1.of_group, sites))
 
   clock_le : w.clock ≤ greatest group after s
   clock_le =
@@ -184,7 +190,7 @@ module _ (kind : Meaning) (group : Group) (s : ℕ) (b : Book) (v : View) (m : M
 
         committed : Has (on a v.history) x ⊎ Has (news v m) x → Has b.committed x
         committed (inl k) = (g.sure x (has_append_right g.archived (on a v.history) x k)).0
-        committed (inr k) = all-has (Has b.committed) (carried m) x truthful.sure (has_kept_by_parts (is_new v) (carried m) x k).0
+        committed (inr k) = all-has (Has b.committed) (carried m) x truthful.committed (has_kept_by_parts (is_new v) (carried m) x k).0
 
         held : Has (on a w.history) x → Reached after s a x
         held k =
@@ -216,7 +222,7 @@ module _ (kind : Meaning) (group : Group) (s : ℕ) (b : Book) (v : View) (m : M
             let behind = all-has (λ h. h.1.from ≤ entry v h.0 own h.1.site) (told_intervals m) (a, i) (begun_within v m passes) up.1 in
             let had : entry v a own i.site ≡ b.reach s a q = ap (entry v a own) up.2 ∙ own_entry kind group b s of_group v site a q al ql in
             let from : i.from < x.time = omega (arith, behind, had) in
-            let is_carried = all-has (λ h. (x : Action) → Has b.committed x → x.article ≡ h.0 → x.coordinator ≡ h.1.site → h.1.from < x.time → x.time ≤ h.1.to → Has (carried m) x) (told_intervals m) (a, i) truthful.whole up.1 x r.0 r.1 (sym up.2) from (omega (arith, up.3)) in
+            let is_carried = all-has (CarriesAll b m) (told_intervals m) (a, i) truthful.whole up.1 x r.0 r.1 (up.2, from, omega (arith, up.3)) in
             let newer : entry v x.article own q < x.time = subst (λ (c : ℕ). entry v c own q < x.time) (sym r.1) (omega (arith, own_entry kind group b s of_group v site a q al ql)) in
             arrives x (inr (has_kept_by (is_new v) (carried m) x is_carried (lt-ltb (entry v x.article own q) x.time newer))) r.1
 
@@ -245,7 +251,7 @@ module _ (kind : Meaning) (group : Group) (s : ℕ) (b : Book) (v : View) (m : M
 -- THE EVENT
 
 -- what a lawful message says of times, read from its bytes
-times_read : (kind : Meaning) (small : kind.number ≤ 255) (setup : Setup) (m : Message) → LawfulMessage kind setup m → (bytes : List ℕ) → bytes ≡ format m → (a q : ℕ) → taken_times bytes a q ≡ highest a q (told_intervals m)
+pub times_read : (kind : Meaning) (small : kind.number ≤ 255) (setup : Setup) (m : Message) → LawfulMessage kind setup m → (bytes : List ℕ) → bytes ≡ format m → (a q : ℕ) → taken_times bytes a q ≡ highest a q (told_intervals m)
 times_read kind small setup m lawful bytes is a q =
     ap (λ bs. taken_times bs a q) is ∙ ap (λ rs. highest a q (intervals_of 0 rs)) (records_joined (records m) (lawful_fits kind setup small m lawful)) ∙ ap (highest a q) (told_intervals_of 0 m)
 
@@ -255,16 +261,16 @@ module _ (kind : Meaning) (step_fits : (f : ℤ) (o : ℕ) (a : ℤ) → SFits w
     told_book = book group before
 
     -- bytes that an event wrote and that are a lawful message are a true one
-    true_message : (of_group : s < group.sites) (bytes : List ℕ) → Has (map (λ event. wrote event.call) before) bytes → (m : Message) → LawfulMessage kind (old s).setup m → bytes ≡ format m → Sent kind group bytes m × Truthful told_book m
+    true_message : (of_group : s < group.sites) (bytes : List ℕ) → Has (map (λ event. wrote event.call) before) bytes → (m : Message) → LawfulMessage kind (old s).setup m → bytes ≡ format m → Sent kind group bytes m × IsTruthful told_book old m
     true_message of_group bytes honest m lawful is =
-        by_told (all-has (Told kind group told_book) (map (λ event. wrote event.call) before) bytes (All-map (Told kind group told_book) (λ (event : Event). wrote event.call) before st.told) honest)
+        by_told (all-has (Told kind group told_book old) (map (λ event. wrote event.call) before) bytes (All-map (Told kind group told_book old) (λ (event : Event). wrote event.call) before st.told) honest)
       where
-        by_told : Told kind group told_book bytes → Sent kind group bytes m × Truthful told_book m
+        by_told : Told kind group told_book old bytes → Sent kind group bytes m × IsTruthful told_book old m
         by_told (inl none) = absurd (let e = sym none ∙ is in omega (arith, ap length e))
         by_told (inr (n, sent, truthful)) =
             let there : LawfulMessage kind (old s).setup n = subst (λ (u : Setup). LawfulMessage kind u n) (sym (st.sites s of_group).setup_is) (sent.lawful s of_group) in
             let same : n ≡ m = messages_unique kind (old s).setup small bytes n m there lawful sent.is is in
-            (subst (Sent kind group bytes) same sent, subst (Truthful told_book) same truthful)
+            (subst (Sent kind group bytes) same sent, subst (IsTruthful told_book old) same truthful)
 
     pub take_stands : (bytes : List ℕ) (r : Result ℕ TableFault) → Turn kind group before (at s (Takes bytes r)) old views → Standing kind group (at s (Takes bytes r) ∷ before) views
     take_stands bytes (Err e) turn = stands_still kind group before s old views st (Takes bytes (Err e)) turn refl turn.does.1 (inl refl) tt
@@ -278,10 +284,10 @@ module _ (kind : Meaning) (step_fits : (f : ℤ) (o : ℕ) (a : ℤ) → SFits w
         let both = true_message of_group bytes turn.honest m lawful took.2 in
         let read = times_read kind small (old s).setup m lawful bytes took.2 in
         let sound : Sound kind (taken kind (old s) m) = subst (Sound kind) is_after (take_keeps kind step_fits commute (old s) (views s) site.sound bytes (Ok n) turn.does) in
-        let credits : (z : ℕ) → (z ≡ (old s).setup.own) ⊎ (z ≡ m.sender) → Credits (views s) z m = λ z is. subst (λ (u : View). Credits u z m) (sym is_after) (take_credits kind group s told_book (old s) m (taken_times bytes) of_group site lawful both.1 read z is) in
+        let credits : (z : ℕ) → (z ≡ (old s).setup.own) ⊎ (z ≡ m.sender) → Credits (views s) z m = λ z is. subst (λ (u : View). Credits u z m) (sym is_after) (take_credits kind group s told_book (old s) m (taken_times bytes) of_group site lawful old st.sites both.1 read z is) in
         stands_after kind group before (at s (Takes bytes (Ok n))) old views turn st
-        (take_grows kind group s told_book (old s) m (taken_times bytes) of_group site lawful both.1 read st.account)
-        (subst (Site kind group (reaching s (taken_times bytes) told_book) s) (sym is_after) (take_site kind group s told_book (old s) m (taken_times bytes) of_group site lawful both.1 read took.3 sound st.account))
+        (take_grows kind group s told_book (old s) m (taken_times bytes) of_group site lawful old st.sites both.1 read st.account)
+        (subst (Site kind group (reaching s (taken_times bytes) told_book) s) (sym is_after) (take_site kind group s told_book (old s) m (taken_times bytes) of_group site lawful old st.sites both.1 read took.3 sound st.account))
         (λ a z q. subst (λ (u : View). entry (old s) a z q ≤ entry u a z q) (sym is_after) (taken_ge kind (old s) m site.sound lawful a z q))
         (inl refl)
         (m, both.0, credits s (inl (sym (own_is kind group told_book s of_group (old s) site))), credits m.sender (inr refl))

@@ -8,7 +8,7 @@ use Rattle.action.proofs.Members.{all_from_has, has_append_cases, has_kept_by, h
 use Rattle.kind.specs.Meaning.{Meaning}
 use Rattle.kind.specs.Working.{on}
 use Rattle.message.specs.declared.records.Interval.{Interval}
-use Rattle.message.specs.Format.{Message, Section, carried, format, told_intervals}
+use Rattle.message.specs.Format.{Message, Section, format, told_intervals}
 use Rattle.message.proofs.Carried.{all_joined, has_joined, has_map}
 use Rattle.table.specs.declared.faults.TableFault.{TableFault}
 use Rattle.table.specs.declared.tickets.Ticket.{Ticket}
@@ -20,15 +20,16 @@ use Rattle.table.proofs.Soundness.{committed_entry_ge, passed}
 use Rattle.runs.specs.Books.{Book, book}
 use Rattle.runs.specs.Events.{Event, at}
 use Rattle.runs.specs.Events.Call.{Commits}
+use Rattle.runs.specs.Laws.{CarriesAll, IsTruthful, Told}
 use Rattle.runs.specs.Runs.{Group, Turn}
 use Rattle.runs.proofs.Commits.{after, commit_grows, commit_reach_own, commit_site, old_own}
 use Rattle.runs.proofs.Growing.{stands_after}
 use Rattle.runs.proofs.Opening.{stands_still}
 use Rattle.runs.proofs.Sites.{articles_are, lawful_anywhere, own_entry, own_is}
-use Rattle.runs.proofs.Standing.{Account, Site, Standing, Told, Truthful}
+use Rattle.runs.proofs.Standing.{Account, Site, Standing}
 use Rattle.runs.proofs.Writing.{written_back}
 
-module _ (kind : Meaning) (group : Group) (b : Book) (s : ℕ) (of_group : s < group.sites) (v : View) (site : Site kind group b s v) (l : Account group b) where
+module _ (kind : Meaning) (group : Group) (b : Book) (s : ℕ) (of_group : s < group.sites) (v : View) (site : Site kind group b s v) (l : Account group b) (views : ℕ → View) (site_after : Site kind group (after kind group b s of_group v site l) s (views s)) where
   abbrev m : Message
   m = transaction_message kind v
 
@@ -61,28 +62,28 @@ module _ (kind : Meaning) (group : Group) (b : Book) (s : ℕ) (of_group : s < g
   own_before : (a : ℕ) → a < group.articles → entry v a own own ≡ b.reach s a s
   own_before a al = ap (λ (n : ℕ). entry v a own n) own_s ∙ own_entry kind group b s of_group v site a s al of_group
 
-  pub transaction_true : Truthful then m
+  pub transaction_true : IsTruthful then views m
   transaction_true = record {
-    sender_has = each_interval (λ h. h.1.to ≤ then.reach own h.0 h.1.site) (λ a h.
-        subst (λ (n : ℕ). (interval a).to ≤ then.reach n a n) (sym own_s) (omega (arith, own_before a (listed a h), commit_reach_own kind group b s of_group v site l a, ap (latest a) site.pending_is)));
-    whole = each_interval (λ h. (x : Action) → Has then.committed x → x.article ≡ h.0 → x.coordinator ≡ h.1.site → h.1.from < x.time → x.time ≤ h.1.to → Has (carried m) x) (λ a h x has on_it of_it above up_to.
+    committed = all_joined (λ c. c.actions) (Has then.committed) m.sections (each_section (λ c. AllByRecursion (Has then.committed) c.actions) (λ a h.
+        all_from_has (Has then.committed) (on a v.pending) (λ x k. has_append_right b.committed (b.pending s) x (subst (λ (xs : List Action). Has xs x) (sym site.pending_is) (has_kept_by_parts (λ y. eqb y.article a) v.pending x k).0))));
+    whole = each_interval (CarriesAll then m) (λ a h x has on_it in_it.
         ⊎_elim
-        (λ old. absurd (omega (arith, above, own_before a (listed a h), subst (λ (c : ℕ). x.time ≤ b.reach s c s) on_it (old_own kind group b s of_group v site l x old (of_it ∙ own_s)))))
+        (λ old. absurd (omega (arith, in_it.1, own_before a (listed a h), subst (λ (c : ℕ). x.time ≤ b.reach s c s) on_it (old_own kind group b s of_group v site l x old (sym in_it.0 ∙ own_s)))))
         (λ mine. has_joined (λ c. c.actions) m.sections (transaction_section v a) x (has_map (transaction_section v) (written_articles v) a h) (has_kept_by (λ y. eqb y.article a) v.pending x (subst (λ (xs : List Action). Has xs x) site.pending_is mine) (eq-eqb x.article a on_it)))
         (has_append_cases b.committed (b.pending s) x has));
-    sure = all_joined (λ c. c.actions) (Has then.committed) m.sections (each_section (λ c. AllByRecursion (Has then.committed) c.actions) (λ a h.
-        all_from_has (Has then.committed) (on a v.pending) (λ x k. has_append_right b.committed (b.pending s) x (subst (λ (xs : List Action). Has xs x) (sym site.pending_is) (has_kept_by_parts (λ y. eqb y.article a) v.pending x k).0))));
+    sender_has = each_interval (λ h. h.1.to ≤ entry (views own) h.0 own h.1.site) (λ a h.
+        subst (λ (n : ℕ). (interval a).to ≤ entry (views n) a n n) (sym own_s) (omega (arith, own_before a (listed a h), commit_reach_own kind group b s of_group v site l a, ap (latest a) site.pending_is, site_after.vector a s (listed a h) of_group)));
   }
 
   -- all of it, or nothing
-  commit_told : (buffer : List ℕ) → Told kind group then (fitting (transaction_bytes kind v) buffer)
+  commit_told : (buffer : List ℕ) → Told kind group then views (fitting (transaction_bytes kind v) buffer)
   commit_told buffer = by_fit (leb (length (transaction_bytes kind v)) (length buffer))
     where
-      by_writes : (t : Bool) → ltb 0 (length v.pending) ≡ t → Told kind group then (cond t (format m) [])
+      by_writes : (t : Bool) → ltb 0 (length v.pending) ≡ t → Told kind group then views (cond t (format m) [])
       by_writes true e = inr (m, record { is = refl; lawful = lawful_anywhere kind group b s of_group v site m (transaction_lawful kind v site.sound (ltb-true 0 (length v.pending) e)) }, transaction_true)
       by_writes false e = inl refl
 
-      by_fit : (t : Bool) → Told kind group then (cond t (transaction_bytes kind v) [])
+      by_fit : (t : Bool) → Told kind group then views (cond t (transaction_bytes kind v) [])
       by_fit true = by_writes (ltb 0 (length v.pending)) refl
       by_fit false = inl refl
 
@@ -99,9 +100,10 @@ module _ (kind : Meaning) (group : Group) (before : List Event) (s : ℕ) (old v
       let held = passed (holds kind v t) _ _ turn.does.0 in
       let free = leb-true (length v.history + length v.pending) v.capacity (passed (leb (length v.history + length v.pending) v.capacity) _ _ held.1).0 in
       let bytes : take n.1 left ≡ fitting (transaction_bytes kind v) buffer = written_back buffer (fitting (transaction_bytes kind v) buffer) left n.1 turn.does.2 turn.does.4 in
+      let site_after = subst (Site kind group (after kind group b s of_group v site l) s) (sym is) (commit_site kind group b s of_group v site l free) in
       stands_after kind group before (at s (Commits t buffer (Ok n) left)) old views turn st
       (commit_grows kind group b s of_group v site l)
-      (subst (Site kind group (after kind group b s of_group v site l) s) (sym is) (commit_site kind group b s of_group v site l free))
+      site_after
       (λ a z q. omega (arith, committed_entry_ge kind v site.sound free a z q, ap (λ (u : View). entry u a z q) is))
-      (subst (Told kind group (after kind group b s of_group v site l)) (sym bytes) (commit_told kind group b s of_group v site l buffer))
+      (subst (Told kind group (after kind group b s of_group v site l) views) (sym bytes) (commit_told kind group b s of_group v site l views site_after buffer))
       tt

@@ -1,15 +1,18 @@
--- The three laws of whole runs. Assumes nothing.
-use Rattle.std.specs.Prelude.{◌≡◌, ℕ, ◌<◌, true, false, List, Ok, Result}
+-- The laws of whole runs. Assumes nothing.
+use Rattle.std.specs.Prelude.{◌≡◌, ℕ, ◌<◌, ◌≤◌, true, false, ◌⊎◌, List, [], Ok, Result}
 use Rattle.std.specs.List.{ContainsAt as Has, AllByRecursion}
 use Rattle.action.specs.declared.orders.Action.{Action}
 use Rattle.action.specs.Order.{Distinct}
 use Rattle.kind.specs.Meaning.{Meaning}
+use Rattle.message.specs.declared.records.Interval.{Interval}
+use Rattle.message.specs.Format.{Message, carried, format, told_intervals}
+use Rattle.message.specs.Lawful.{Carries, LawfulMessage}
 use Rattle.table.specs.declared.faults.TableFault.{TableFault}
 use Rattle.table.specs.Answers.{figure, open_item}
-use Rattle.table.specs.Taking.{Took}
+use Rattle.table.specs.Taking.{Took, highest}
 use Rattle.table.specs.View.{View, entry}
-use Rattle.runs.specs.Books.{Book, book, counted, counted_by_all, reaches}
-use Rattle.runs.specs.Events.{Event}
+use Rattle.runs.specs.Books.{Book, book, counted, counted_by_all, reaches, taken_times}
+use Rattle.runs.specs.Events.{Event, wrote}
 use Rattle.runs.specs.Events.Call.{Takes}
 use Rattle.runs.specs.Runs.{Group, Ran}
 
@@ -51,6 +54,58 @@ RepeatsChangeNothing kind group events views =
     (r : Result ℕ TableFault) (w : View) → Took kind (views s) bytes r w →
     (w ≡ views s) × ((n : ℕ) → r ≡ Ok n → n ≡ 0)
 
+-- WHAT TABLES BELIEVE
+
+-- no table believes that a site has more than the site's own table shows
+abbrev pub BelievesNoMore : Group → (ℕ → View) → Type 0
+BelievesNoMore group views =
+    (s a z q : ℕ) → s < group.sites → a < group.articles → z < group.sites → q < group.sites →
+    entry (views s) a z q ≤ entry (views z) a z q
+
+-- no site has more of a site's actions than that site itself
+abbrev pub HasNoMore : Group → (ℕ → View) → Type 0
+HasNoMore group views =
+    (s a q : ℕ) → s < group.sites → a < group.articles → q < group.sites →
+    entry (views s) a s q ≤ entry (views q) a q q
+
+-- MESSAGES
+
+-- the bytes are this message, which every table of the group may read
+pub record Sent (kind : Meaning) (group : Group) (bytes : List ℕ) (m : Message) : Type 0 where
+  pub is : bytes ≡ format m
+  pub lawful : (s : ℕ) → s < group.sites → LawfulMessage kind (group.setup s) m
+
+-- by this table site z has all that the message's intervals say
+abbrev pub Credits : View → ℕ → Message → Type 0
+Credits v z m = AllByRecursion (λ h. h.1.to ≤ entry v h.0 z h.1.site) (told_intervals m)
+
+-- the message carries every committed action that lies in the interval, which comes with its article
+abbrev pub CarriesAll : Book → Message → ℕ × Interval → Type 0
+CarriesAll b m h = (x : Action) → Has b.committed x → x.article ≡ h.0 → Carries h.1 x → Has (carried m) x
+
+-- what the message says is so: each action that it carries is committed, it carries all that is committed in
+-- its intervals, and its sender has what they say
+pub record IsTruthful (b : Book) (views : ℕ → View) (m : Message) : Type 0 where
+  pub committed : AllByRecursion (Has b.committed) (carried m)
+  pub whole : AllByRecursion (CarriesAll b m) (told_intervals m)
+  pub sender_has : Credits (views m.sender) m.sender m
+
+-- the bytes are nothing, or a message of the group that tells the truth
+abbrev pub Told : Meaning → Group → Book → (ℕ → View) → List ℕ → Type 0
+Told kind group b views bytes =
+    (bytes ≡ []) ⊎ ((m : Message) × Sent kind group bytes m × IsTruthful b views m)
+
+-- whatever an event of the run wrote is true at the end of the run
+abbrev pub TellsTheTruth : Meaning → Group → List Event → (ℕ → View) → Type 0
+TellsTheTruth kind group events views =
+    (event : Event) → Has events event → Told kind group (book group events) views (wrote event.call)
+
+-- what a site took is a message of the group, and the book enters of it what the message's intervals say
+abbrev pub EntersMessages : Meaning → Group → List Event → Type 0
+EntersMessages kind group events =
+    (s n : ℕ) (bytes : List ℕ) → Has events (record { site = s; call = Takes bytes (Ok n) }) →
+    (m : Message) × Sent kind group bytes m × ((a q : ℕ) → taken_times bytes a q ≡ highest a q (told_intervals m))
+
 -- EVERY RUN
 
 abbrev pub EveryRun : Meaning → (Group → List Event → (ℕ → View) → Type 0) → Type 0
@@ -68,3 +123,15 @@ Level kind =
 
 abbrev pub Repeated : Meaning → Type 0
 Repeated kind = EveryRun kind (RepeatsChangeNothing kind)
+
+abbrev pub Believed : Meaning → Type 0
+Believed kind = EveryRun kind (λ group events views. BelievesNoMore group views)
+
+abbrev pub NoMore : Meaning → Type 0
+NoMore kind = EveryRun kind (λ group events views. HasNoMore group views)
+
+abbrev pub Truthful : Meaning → Type 0
+Truthful kind = EveryRun kind (TellsTheTruth kind)
+
+abbrev pub Entered : Meaning → Type 0
+Entered kind = EveryRun kind (λ group events views. EntersMessages kind group events)

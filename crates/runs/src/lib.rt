@@ -2,16 +2,23 @@
 // sites, where messages are taken late, often, in any order or never.
 #![tactic(auto)]
 
-ghost use Rattle.runs.specs.Laws.{Counted, Level, Repeated};
+ghost use Rattle.runs.specs.Laws.{Believed, Counted, Entered, Level, NoMore, Repeated, Truthful};
 
 use kind::Kind;
 
-// Holds of every run of tables of this kind: each site's figures count each committed movement that the
-// site has just once, and the site that committed a movement has it; where an article is an open item
-// nowhere, its figure at every site is that of all movements committed on it, each counted once; and a
-// message taken again changes nothing.
+// Holds of every run of tables of this kind. Each site's figures count each committed movement that the site
+// has just once, and the site that committed a movement has it. Where an article is an open item nowhere, its
+// figure at every site is that of all movements committed on it, each counted once. A message taken again
+// changes nothing. No table believes that a site has more than that site's own table shows, and no site has
+// more of a site's movements than that site itself. What was written is true: a message carries just the
+// committed movements in its intervals, and its sender has what they say. And what was taken is a message, of
+// which the book enters what its intervals say.
 pub fn each_movement_counted_once<K: Kind>()
     ensures counted { Counted K.means }
     ensures level { Level K.means }
     ensures repeated { Repeated K.means }
+    ensures believed { Believed K.means }
+    ensures no_more { NoMore K.means }
+    ensures truthful { Truthful K.means }
+    ensures entered { Entered K.means }
 {}
