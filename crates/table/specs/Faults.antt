@@ -23,6 +23,6 @@ shown (InReader fault) = ReaderFaults.shown fault
 shown (InHistory fault) = HistoryFaults.shown fault
 
 -- a check passes where its condition holds, and is refused by its fault where not
-abbrev pub Passes : Bool → TableFault → Result Unit TableFault → Type 0
+abbrev pub Passes : {E : Type 0} → Bool → E → Result Unit E → Type 0
 Passes holds fault (Ok _) = holds ≡ true
 Passes holds fault (Err e) = (holds ≡ false) × (e ≡ fault)

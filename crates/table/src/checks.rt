@@ -42,13 +42,13 @@ impl State {
 
 impl<H: History> Store<H> {
     // The history has room for so many more.
-    pub(crate) fn check_room(&self, more: usize) -> Result<(), TableFault>
+    pub(crate) fn check_room(&self, more: usize) -> Result<(), HistoryFault>
         ensures { Passes (nat_le (length self.now.history + more) self.now.capacity)
-            (TableFault.InHistory (HistoryFault.Full self.now.capacity)) result }
+            (HistoryFault.Full self.now.capacity) result }
     {
         let capacity = self.history.capacity();
         if more > capacity - self.history.count() {
-            return Err(HistoryFault::Full(capacity).into());
+            return Err(HistoryFault::Full(capacity));
         }
         Ok(())
     }

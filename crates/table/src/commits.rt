@@ -62,7 +62,7 @@ impl<H: History> Store<H> {
         }
         let writes = written_in(&self.state.transaction).len();
         if let Err(fault) = self.check_room(writes) {
-            return Err((fault, ticket));
+            return Err((fault.into(), ticket));
         }
         ticket.spend();
         let length = send::<K>(&self.state, buffer);
