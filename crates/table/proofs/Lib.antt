@@ -5,12 +5,14 @@ pub mod Filtered
 pub mod Greatest
 pub mod Lawfulness
 pub mod Offering
+pub mod Outcomes
 pub mod Posting
 pub mod Putting
 pub mod Recording
 pub mod Refusals
 pub mod Rising
 pub mod Sections
+pub mod Shown
 pub mod Soundness
 pub mod Stretching
 pub mod Taken

@@ -2,6 +2,7 @@ pub mod Answers
 pub mod Archiving
 pub mod Faults
 pub mod Offers
+pub mod Outcomes
 pub mod Sound
 pub mod Taking
 pub mod Transactions

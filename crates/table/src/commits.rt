@@ -1,9 +1,10 @@
-ghost use Rattle.std.specs.Prelude.{◌≡◌, ◌+◌, ◌<◌, ◌≤◌, length};
+ghost use Rattle.std.specs.Prelude.{◌≡◌, ℕ, ◌+◌, ◌<◌, ◌≤◌, List, length};
 ghost use Rattle.message.specs.Buffer.{overwritten};
 ghost use Rattle.message.specs.Lawful.{LawfulMessage};
+ghost use Rattle.table.specs.Outcomes.{OneOutcome};
 ghost use Rattle.table.specs.Sound.{Sound};
 ghost use Rattle.table.specs.Transactions.{Committed, committed, fitting, transaction_bytes, transaction_message};
-ghost use Rattle.table.specs.View.{bare};
+ghost use Rattle.table.specs.View.{View, bare};
 
 use crate::faults::TableFault;
 use crate::state::{State, written_in};
@@ -81,6 +82,8 @@ impl<K: Kind, H: History> Table<K, H> {
     ) -> Result<(usize, usize), (TableFault, Ticket)>
         ensures does { Committed K.means self.old ticket buffer.old result self.new buffer.new }
         ensures sound { Sound K.means self.new }
+        ensures once { OneOutcome (λ answer (after : View × List ℕ).
+            Committed K.means self.old ticket buffer.old answer after.0 after.1) }
         ensures lawful { 0 < length self.old.pending
             → LawfulMessage K.means self.old.setup (transaction_message K.means self.old) }
     {

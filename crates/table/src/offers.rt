@@ -5,6 +5,7 @@ ghost use Rattle.message.specs.Buffer.{overwritten};
 ghost use Rattle.message.specs.Format.{interval_bytes};
 ghost use Rattle.message.specs.Lawful.{LawfulMessage};
 ghost use Rattle.table.specs.Offers.{Offered, is_offered, offer_actions, offer_interval, offer_intervals, offer_message};
+ghost use Rattle.table.specs.Outcomes.{OneOutcome};
 ghost use Rattle.table.specs.Sound.{Sound};
 ghost use Rattle.table.specs.View.{bare};
 
@@ -126,6 +127,7 @@ impl<K: Kind, H: History> Table<K, H> {
     pub fn offer(&self, peer: u8, article: u8, buffer: &mut [u8]) -> Result<usize, TableFault>
         ensures does { Offered K.means self.now peer article buffer.old result buffer.new }
         ensures sound { Sound K.means self.now }
+        ensures once { OneOutcome (Offered K.means self.now peer article buffer.old) }
         ensures lawful { article < self.now.setup.articles
             → LawfulMessage K.means self.now.setup (offer_message K.means self.now peer article) }
     {

@@ -3,6 +3,7 @@ ghost use Rattle.std.specs.Prelude.{◌≡◌, ◌+◌, ◌≤◌, length};
 ghost use Rattle.message.specs.Format.{Message, records};
 ghost use Rattle.message.specs.Walks.{records_in};
 ghost use Rattle.row.specs.Passes.{new_actions};
+ghost use Rattle.table.specs.Outcomes.{OneOutcome};
 ghost use Rattle.table.specs.Sound.{Sound};
 ghost use Rattle.table.specs.Taking.{Took, taken};
 
@@ -56,6 +57,7 @@ impl<K: Kind, H: History> Table<K, H> {
     pub fn take(&mut self, bytes: &[u8]) -> Result<usize, TableFault>
         ensures does { Took K.means self.old bytes.now result self.new }
         ensures sound { Sound K.means self.new }
+        ensures once { OneOutcome (Took K.means self.old bytes.now) }
     {
         self.store.take::<K>(bytes)
     }

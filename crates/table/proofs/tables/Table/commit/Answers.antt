@@ -3,6 +3,7 @@ use Rattle.message.specs.Lawful.{LawfulMessage}
 use Rattle.table.specs.Transactions.{transaction_message}
 use Rattle.table.specs.View.{View}
 use Rattle.table.proofs.Lawfulness.{transaction_lawful}
+use Rattle.table.proofs.Outcomes.{commit_once}
 use Rattle.table.proofs.Soundness.{commit_keeps}
 use Rattle.table.proofs.tables.Table.commit.Goals as goal
 
@@ -12,6 +13,9 @@ invariant_of-self g c =
 
 pub returns-clause-sound : goal.returns-clause-sound
 returns-clause-sound g c = invariant_of-self g c
+
+pub returns-clause-once : goal.returns-clause-once
+returns-clause-once g c = commit_once g.K.Kind.means c.args.self.now c.args.buffer.now c.args.ticket
 
 pub returns-clause-lawful : goal.returns-clause-lawful
 returns-clause-lawful g c =

@@ -1,3 +1,4 @@
+use Rattle.table.proofs.Outcomes.{take_once}
 use Rattle.table.proofs.Taken.{take_keeps}
 use Rattle.table.proofs.tables.Table.take.Goals as goal
 
@@ -7,3 +8,6 @@ invariant_of-self g c =
 
 pub returns-clause-sound : goal.returns-clause-sound
 returns-clause-sound g c = invariant_of-self g c
+
+pub returns-clause-once : goal.returns-clause-once
+returns-clause-once g c = take_once g.K.Kind.means g.met.K.Kind.number_fits c.args.self.now c.args.bytes.now
