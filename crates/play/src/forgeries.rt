@@ -5,7 +5,7 @@ ghost use Rattle.std.specs.Prelude.{◌≤◌, IfSome};
 
 use crate::books::Book;
 use crate::dues::Due;
-use crate::runs::Run;
+use crate::run::Run;
 use crate::walks::stretches;
 use kind::Kind;
 use std::alloc::AllocError;

@@ -1,6 +1,6 @@
 // The laws of whole runs, held against the book.
 use crate::reports::{Law, up};
-use crate::runs::Run;
+use crate::run::Run;
 use kind::Kind;
 
 impl<K: Kind + Drop, J: Kind + Drop> Run<K, J> {

@@ -1,6 +1,6 @@
 // Lines that belong together: those that have all sites move, and those that bring an article level.
 use crate::lines::Offer;
-use crate::runs::{Run, SLOTS};
+use crate::run::{Run, SLOTS};
 use crate::slots::Space;
 use crate::stops::Stop;
 use crate::transactions::Turn;

@@ -2,7 +2,7 @@
 // what the table shows after it to the rules.
 use crate::dues::Due;
 use crate::reports::{Law, up};
-use crate::runs::Run;
+use crate::run::Run;
 use crate::slots::{SLOT_BYTES, Space};
 use crate::stops::Stop;
 use crate::walks::{Stretch, stretches};

@@ -1,6 +1,6 @@
-// Plays random runs by seed on real tables, and holds them to the three laws of whole runs by a book
-// that it keeps itself. The laws are proved of every run; this program is a test beside the proofs, of the
-// compiled tables. Its own functions are proved only to be safe and to end.
+// Plays random runs by seed on real tables, and holds them to three laws of whole runs by a book that it
+// keeps itself. The laws are proved of every run; this program is a test beside the proofs, of the compiled
+// tables. Its own functions are proved only to be safe and to end.
 //
 // A run cannot meet every refusal: 1 is that of a set-up, 17 that of a history, 18 that of a script, and 8
 // needs a clock near 4,000,000,000, which a run that starts at 0 does not reach. All others are met.
@@ -17,7 +17,7 @@ mod outsiders;
 mod picks;
 mod plays;
 mod reports;
-mod runs;
+mod run;
 mod seats;
 mod slots;
 mod stops;
@@ -29,6 +29,7 @@ use crate::plays::play_run;
 use crate::reports::Counts;
 use crate::stops::Stop;
 use kind::{Flags, Kind, OnHand, Price};
+use runs::each_movement_counted_once;
 use std::io;
 use std::io::Read;
 
@@ -120,6 +121,10 @@ fn read_wish(rt: &HostRuntime) -> io::Result<Wish> {
 }
 
 fn main(rt: HostRuntime) -> Result<(), Stop> {
+    // The laws of whole runs, for each kind, on the contract of these calls.
+    each_movement_counted_once::<OnHand>();
+    each_movement_counted_once::<Flags>();
+    each_movement_counted_once::<Price>();
     let wish = read_wish(&rt)?;
     let Wish { seed, runs, lines } = wish;
     println!(rt; "seed {seed}, {runs} runs of {lines} lines and more")?;

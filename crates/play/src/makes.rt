@@ -2,7 +2,7 @@
 use crate::books::Book;
 use crate::outsiders::{Outsider, Stranger};
 use crate::reports::Counts;
-use crate::runs::{Run, SLOTS};
+use crate::run::{Run, SLOTS};
 use crate::seats::Seat;
 use crate::slots::Slot;
 use crate::stops::Stop;

@@ -2,7 +2,7 @@
 ghost use Rattle.std.specs.Prelude.{◌≤◌};
 
 use crate::outsiders::MOST_SITES;
-use crate::runs::{Run, SLOTS};
+use crate::run::{Run, SLOTS};
 use crate::slots::{SLOT_BYTES, Space};
 use kind::Kind;
 use trials::{Dice, Movement};

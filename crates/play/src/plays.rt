@@ -4,7 +4,7 @@ use crate::makes::make_run;
 use crate::outsiders::Stranger;
 use crate::picks::{pick_most, pick_space};
 use crate::reports::{Counts, Law, Place};
-use crate::runs::{Run, SLOTS};
+use crate::run::{Run, SLOTS};
 use crate::seats::Abandon;
 use crate::slots::Space;
 use crate::stops::Stop;

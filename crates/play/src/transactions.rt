@@ -2,7 +2,7 @@
 use crate::dues::Due;
 use crate::picks::Holder;
 use crate::reports::{Law, up};
-use crate::runs::Run;
+use crate::run::Run;
 use crate::seats::{Abandon, Call, Commit, Write};
 use crate::slots::{SLOT_BYTES, Space};
 use crate::stops::Stop;
