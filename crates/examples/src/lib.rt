@@ -4,8 +4,10 @@
 
 ghost use Rattle.std.specs.Prelude.{◌≡◌, true};
 ghost use Rattle.std.specs.List.{AllByRecursion};
+ghost use Rattle.kind.specs.Meanings.{on_hand};
 ghost use Rattle.kind.specs.Working.{working};
-ghost use Rattle.examples.specs.Table.{Holds, at, doing, examples};
+ghost use Rattle.table.specs.Sound.{Sound};
+ghost use Rattle.examples.specs.Table.{Holds, at, doing, examples, site};
 
 use action::Action;
 use kind::{Flags, Kind, OnHand, Price};
@@ -93,11 +95,13 @@ fn order_holds() -> bool
 }
 
 // Do the examples of figures and of the order come out as expected, as they are written here? They do; and
-// each row of the table holds of the definitions, those of taking a message among them. The second says
-// nothing of this code: that the code computes what the definitions do for all arguments is in the contracts
-// of `Kind::step` and `Action::precedes`.
+// each row of the table holds of the definitions, those of taking a message among them, at a table that is
+// sound. Of the rows that says nothing of this code: that the code computes what the definitions do for all
+// arguments is in the contracts of `Kind::step`, `Action::precedes` and `Table::take`.
 pub fn examples_hold() -> bool
-    ensures { (result ≡ true) × AllByRecursion Holds examples }
+    ensures code { result ≡ true }
+    ensures table { AllByRecursion Holds examples }
+    ensures sound { Sound on_hand site }
 {
     on_hand_holds() && set_prices_hold() && raised_prices_hold() && flags_hold() && order_holds()
 }
