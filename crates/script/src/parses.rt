@@ -1,5 +1,5 @@
 ghost use Rattle.std.specs.Prelude.{◌≡◌, ◌+◌, ◌*◌, ◌<◌, IfSome};
-ghost use Rattle.script.specs.Lines.{DigitBelow, Hundreds, Placed, Sign, command};
+ghost use Rattle.script.specs.Lines.{DigitBelow, Hundreds, Placed, Sign, command, figure_of, move_of, offer_of, open_item_of, take_of};
 
 use crate::commands::Command;
 
@@ -38,42 +38,95 @@ fn amount(sign: u8, thousands: u16, ones: u16) -> Option<i32>
     }
 }
 
-// The command that a line writes, or `None` where it has no known form. There is nothing more to say of
-// such a line, so this is no `TryFrom`.
+// Each of the five reads what stands after its letter.
+fn parse_move(body: &[u8]) -> Option<Command>
+    ensures form { result ≡ move_of body.now }
+    ensures placed { IfSome result Placed }
+{
+    let [site, article, sign, d5, d4, d3, d2, d1, d0, slot] = body else {
+        return None;
+    };
+    Some(Command::Move {
+        site: digit_below(SITES, *site)?,
+        article: digit_below(10, *article)?,
+        amount: amount(
+            *sign,
+            three_digits(*d5, *d4, *d3)?,
+            three_digits(*d2, *d1, *d0)?,
+        )?,
+        slot: digit_below(10, *slot)?,
+    })
+}
+
+fn parse_offer(body: &[u8]) -> Option<Command>
+    ensures form { result ≡ offer_of body.now }
+    ensures placed { IfSome result Placed }
+{
+    let [site, peer, article, slot] = body else {
+        return None;
+    };
+    Some(Command::Offer {
+        site: digit_below(SITES, *site)?,
+        peer: digit_below(10, *peer)?,
+        article: digit_below(10, *article)?,
+        slot: digit_below(10, *slot)?,
+    })
+}
+
+fn parse_take(body: &[u8]) -> Option<Command>
+    ensures form { result ≡ take_of body.now }
+    ensures placed { IfSome result Placed }
+{
+    let [site, slot] = body else {
+        return None;
+    };
+    Some(Command::Take {
+        site: digit_below(SITES, *site)?,
+        slot: digit_below(10, *slot)?,
+    })
+}
+
+fn parse_figure(body: &[u8]) -> Option<Command>
+    ensures form { result ≡ figure_of body.now }
+    ensures placed { IfSome result Placed }
+{
+    let [site, article] = body else {
+        return None;
+    };
+    Some(Command::Figure {
+        site: digit_below(SITES, *site)?,
+        article: digit_below(10, *article)?,
+    })
+}
+
+fn parse_open_item(body: &[u8]) -> Option<Command>
+    ensures form { result ≡ open_item_of body.now }
+    ensures placed { IfSome result Placed }
+{
+    let [site, peer, article] = body else {
+        return None;
+    };
+    Some(Command::OpenItem {
+        site: digit_below(SITES, *site)?,
+        peer: digit_below(10, *peer)?,
+        article: digit_below(10, *article)?,
+    })
+}
+
+// The command that a line writes, or `None` where it has no known form.
 pub fn parse(line: &[u8]) -> Option<Command>
     ensures form { result ≡ command line.now }
     ensures placed { IfSome result Placed }
 {
-    match line {
-        [b'M', site, article, sign, d5, d4, d3, d2, d1, d0, slot] => Some(Command::Move {
-            site: digit_below(SITES, *site)?,
-            article: digit_below(10, *article)?,
-            amount: amount(
-                *sign,
-                three_digits(*d5, *d4, *d3)?,
-                three_digits(*d2, *d1, *d0)?,
-            )?,
-            slot: digit_below(10, *slot)?,
-        }),
-        [b'O', site, peer, article, slot] => Some(Command::Offer {
-            site: digit_below(SITES, *site)?,
-            peer: digit_below(10, *peer)?,
-            article: digit_below(10, *article)?,
-            slot: digit_below(10, *slot)?,
-        }),
-        [b'T', site, slot] => Some(Command::Take {
-            site: digit_below(SITES, *site)?,
-            slot: digit_below(10, *slot)?,
-        }),
-        [b'F', site, article] => Some(Command::Figure {
-            site: digit_below(SITES, *site)?,
-            article: digit_below(10, *article)?,
-        }),
-        [b'P', site, peer, article] => Some(Command::OpenItem {
-            site: digit_below(SITES, *site)?,
-            peer: digit_below(10, *peer)?,
-            article: digit_below(10, *article)?,
-        }),
+    let [letter, body @ ..] = line else {
+        return None;
+    };
+    match char::from(*letter) {
+        'M' => parse_move(body),
+        'O' => parse_offer(body),
+        'T' => parse_take(body),
+        'F' => parse_figure(body),
+        'P' => parse_open_item(body),
         _ => None,
     }
 }
