@@ -7,7 +7,7 @@ use Rattle.script.specs.Acts.{Reply}
 
 -- the bytes of a printed line
 abbrev pub sheet_bytes : SheetLine → List ℕ
-sheet_bytes s = s.text.bytes
+sheet_bytes s = s.text.items
 
 -- a blank and the answer, of which an open item is 1 and none is 0; or ` refused ` and the refusal's number
 abbrev pub answer_bytes : Reply → List ℕ

@@ -12,11 +12,11 @@ pub(crate) fn print(letter: char, outcome: Result<Answer, LineFault>) -> SheetLi
     ensures { sheet_bytes result ≡ printed_line letter (reply_of outcome) }
 {
     match outcome {
-        Ok(Answer::Time(time)) => SheetLine::new(letter, " ", time),
-        Ok(Answer::Length(length)) => SheetLine::new(letter, " ", length),
-        Ok(Answer::Taken(count)) => SheetLine::new(letter, " ", count),
-        Ok(Answer::Figure(figure)) => SheetLine::new(letter, " ", figure),
-        Ok(Answer::IsOpen(is_open)) => SheetLine::new(letter, " ", u8::from(is_open)),
-        Err(fault) => SheetLine::new(letter, " refused ", fault.number()),
+        Ok(Answer::Time(time)) => SheetLine::new(letter, b" ", time),
+        Ok(Answer::Length(length)) => SheetLine::new(letter, b" ", length),
+        Ok(Answer::Taken(count)) => SheetLine::new(letter, b" ", count),
+        Ok(Answer::Figure(figure)) => SheetLine::new(letter, b" ", figure),
+        Ok(Answer::IsOpen(is_open)) => SheetLine::new(letter, b" ", u8::from(is_open)),
+        Err(fault) => SheetLine::new(letter, b" refused ", fault.number()),
     }
 }

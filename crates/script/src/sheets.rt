@@ -1,30 +1,30 @@
 ghost use Rattle.std.specs.Prelude.{◌≡◌, ◌<◌, ◌≤◌, [], ◌∷◌, ◌++◌, length};
 
-use arrayvec::ArrayString;
+use arrayvec::ArrayVec;
 use itoa::{Buffer, Integer};
 
 // A line of what is printed, with room for the longest answer. It needs no memory from outside.
-#[derive(Clone, Copy)]
+#[derive(Clone, Drop)]
 pub struct SheetLine {
-    text: ArrayString<32>,
+    text: ArrayVec<u8, 32>,
 }
 
 impl SheetLine {
     ghost use Rattle.script.specs.Sheets.{sheet_bytes};
 
-    // A letter, some words and a number. `write!` is not used: no clause says that it succeeds
-    // where there is room.
-    pub(crate) fn new<I: Integer>(letter: char, words: &str, number: I) -> SheetLine
+    // A letter, some words and a number.
+    pub(crate) fn new<I: Integer>(letter: char, words: &[u8], number: I) -> SheetLine
         requires ascii { letter < 128 }
         requires few_words { length words.now ≤ 9 }
         requires few_digits { I.MAX_STR_LEN ≤ 20 }
         ensures { sheet_bytes result ≡ letter ∷ (words.now ++ I.text number ++ (10 ∷ [])) }
     {
-        let mut text = ArrayString::new();
-        text.push(letter);
-        text.push_str(words);
-        text.push_str(Buffer::new().format(number));
-        text.push('\n');
+        let mut text = ArrayVec::new();
+        text.push(letter as u8);
+        text.try_extend_from_slice(words).unwrap();
+        text.try_extend_from_slice(Buffer::new().format(number).as_bytes())
+            .unwrap();
+        text.push(b'\n');
         SheetLine { text }
     }
 
@@ -32,6 +32,6 @@ impl SheetLine {
     pub fn as_slice(&self) -> &[u8]
         ensures { result.now ≡ sheet_bytes self.now }
     {
-        self.text.as_str().as_bytes()
+        self.text.as_slice()
     }
 }
