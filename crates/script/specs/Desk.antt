@@ -1,6 +1,5 @@
 -- What a line does to the desk, and what it prints. Assumes nothing.
 use Rattle.std.specs.Prelude.{◌≡◌, ℕ, zero, suc, List, [], replicate, Some, None, Err, Option, Result, slice_index_or, slice_set}
-use Rattle.std.proofs.Common.{lit<, lit≤}
 use Rattle.kind.specs.Meanings.{on_hand}
 use Rattle.table.specs.View.{View, fresh}
 use Rattle.script.specs.declared.answers.Answer.{Answer}
@@ -17,31 +16,6 @@ pub record DeskView : Type 0 where
   pub second : View
   pub third : View
   pub slots : List (List ℕ)
-
--- what a list of tables is read as where it has no such place; a desk's list has three
-abbrev pub no_table : View
-no_table = fresh on_hand (record {
-  group = 1;
-  sites = 2;
-  own = 0;
-  articles = 1;
-  some_group = lit≤ tt;
-  group_fits = lit≤ tt;
-  two_sites = lit≤ tt;
-  few_sites = lit≤ tt;
-  own_site = lit< tt;
-  some_article = lit≤ tt;
-  few_articles = lit≤ tt;
-}) 0
-
--- a desk of these tables, by site, and these slots
-abbrev pub desk : List View → List (List ℕ) → DeskView
-desk tables slots = record {
-  first = slice_index_or tables 0 no_table;
-  second = slice_index_or tables 1 no_table;
-  third = slice_index_or tables 2 no_table;
-  slots = slots;
-}
 
 -- site `site` of three sites with four articles, with nothing recorded yet and 64 places to record in
 pub record FreshSite (site : ℕ) (v : View) : Type 0 where

@@ -4,14 +4,14 @@ ghost use Rattle.script.specs.Acts.{MovedSlot, OfferedSlot, TookSlot, reply_of};
 use crate::answers::Answer;
 use crate::faults::LineFault;
 use crate::slots::{SLOT_BYTES, Slot};
-use history::Shelf;
+use history::History;
 use kind::OnHand;
 use table::Table;
 
 // A transaction of one write, whose message goes into the slot. Like `post` of `two_sites`: the rules fix a
 // table's calls, no crate stands between `table` and these two, and `two_sites` is read by itself.
-pub(crate) fn move_stock(
-    table: &mut Table<OnHand, Shelf>,
+pub(crate) fn move_stock<H: History>(
+    table: &mut Table<OnHand, H>,
     article: u8,
     amount: i32,
     slot: &mut Slot,
@@ -41,8 +41,8 @@ pub(crate) fn move_stock(
 }
 
 // Offers the article to the peer, into the slot.
-pub(crate) fn offer_article(
-    table: &Table<OnHand, Shelf>,
+pub(crate) fn offer_article<H: History>(
+    table: &Table<OnHand, H>,
     peer: u8,
     article: u8,
     slot: &mut Slot,
@@ -56,7 +56,10 @@ pub(crate) fn offer_article(
 }
 
 // Takes the message in the slot, and answers how many of its actions were new. The slot keeps its message.
-pub(crate) fn take_slot(table: &mut Table<OnHand, Shelf>, slot: &Slot) -> Result<Answer, LineFault>
+pub(crate) fn take_slot<H: History>(
+    table: &mut Table<OnHand, H>,
+    slot: &Slot,
+) -> Result<Answer, LineFault>
     ensures { TookSlot table.old slot.now (reply_of result) table.new }
 {
     Ok(Answer::Taken(table.take(slot.message())?))

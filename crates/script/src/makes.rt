@@ -5,7 +5,6 @@ ghost use Rattle.script.specs.Standing.{NewStands};
 use crate::desks::Desk;
 use crate::slots::Slot;
 use action::Setup;
-use either::Either;
 use history::{PLACE_BYTES, Rack, Strip};
 use std::alloc::{AllocError, Global};
 use table::Table;
@@ -45,15 +44,10 @@ impl Desk {
     fn make(heap: Global) -> Result<Desk, AllocError>
         ensures { IfOk result (λ desk. FreshDesk desk) }
     {
-        let first = Either::Left(Rack::new(heap, PLACES)?);
-        let second = Either::Left(Rack::new(heap, PLACES)?);
-        let third = Either::Right(Strip::new(vec![in heap; 0; STRIP_BYTES]?));
         Ok(Desk {
-            tables: [
-                Table::new(setup(0), first),
-                Table::new(setup(1), second),
-                Table::new(setup(2), third),
-            ],
+            first: Table::new(setup(0), Rack::new(heap, PLACES)?),
+            second: Table::new(setup(1), Rack::new(heap, PLACES)?),
+            third: Table::new(setup(2), Strip::new(vec![in heap; 0; STRIP_BYTES]?)),
             slots: empty_slots(),
         })
     }

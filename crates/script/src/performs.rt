@@ -13,13 +13,13 @@ use crate::parses::parse;
 use crate::prints::print;
 use crate::sheets::SheetLine;
 use crate::slots::Slot;
-use history::Shelf;
+use history::History;
 use kind::OnHand;
 use table::Table;
 
 // Does what the command asks, at the table of its site.
-fn act_at(
-    table: &mut Table<OnHand, Shelf>,
+fn act_at<H: History>(
+    table: &mut Table<OnHand, H>,
     slots: &mut [Slot; 10],
     command: Command,
 ) -> Result<Answer, LineFault>
@@ -52,8 +52,11 @@ impl Desk {
         requires { Placed command }
         ensures { Acted self.old command result self.new }
     {
-        let table = &mut self.tables[usize::from(command.site())];
-        act_at(table, &mut self.slots, command)
+        match command.site() {
+            0 => act_at(&mut self.first, &mut self.slots, command),
+            1 => act_at(&mut self.second, &mut self.slots, command),
+            _ => act_at(&mut self.third, &mut self.slots, command),
+        }
     }
 
     // Runs one line, without the byte that ends it, and answers what is printed for it. A desk at the end of

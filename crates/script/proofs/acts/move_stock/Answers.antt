@@ -9,7 +9,7 @@ use Rattle.script.proofs.acts.move_stock.Goals.{in-Err, in-Ok}
 use Rattle.script.proofs.acts.move_stock.Goals as goal
 
 pub returns-in-Ok-posted : goal.returns-in-Ok-posted
-returns-in-Ok-posted c =
+returns-in-Ok-posted g c =
     let v = c.args.table.now in
     let u = c.write.new.self in
     let ticket = c.in_ok-ticket.ticket in

@@ -10,7 +10,7 @@ use Rattle.script.proofs.Held.{blank_is, offer_granted, offer_refused}
 use Rattle.script.proofs.acts.offer_article.Goals as goal
 
 pub returns-in_err-length : goal.returns-in_err-length
-returns-in_err-length c =
+returns-in_err-length g c =
     let v = c.args.table.now in
     let slot = c.args.slot.now in
     let fault = err_from_is_err_and c.from_residual.result c.from_residual.ensures.1 in
@@ -18,7 +18,7 @@ returns-in_err-length c =
     (λ i. record { table = v; slot = slot; answer = (ap reply_of fault.1 ∙ ap (λ e. Err (number_of e)) fault.2) i }) ∙ offer_refused v c.args.peer c.args.article slot _ (ap (offer_refusal on_hand v c.args.peer c.args.article) (sym blank_is) ∙ told.0)
 
 pub returns : goal.returns
-returns c =
+returns g c =
     let v = c.args.table.now in
     let told = c.in_ok-length.ensures.does in
     let n = c.in_ok-length.length in

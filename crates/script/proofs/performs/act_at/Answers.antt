@@ -6,7 +6,7 @@ use Rattle.script.proofs.Turns.{as_named, settled_in}
 use Rattle.script.proofs.performs.act_at.Goals as goal
 
 pub returns-in-Move : goal.returns-in-Move
-returns-in-Move c =
+returns-in-Move g c =
     let v = c.args.table.now in
     let slots = c.args.slots.now in
     let m = c.in-Move in
@@ -17,7 +17,7 @@ returns-in-Move c =
     as_named v slots _ _ _ m.is turn
 
 pub returns-in-Offer : goal.returns-in-Offer
-returns-in-Offer c =
+returns-in-Offer g c =
     let v = c.args.table.now in
     let slots = c.args.slots.now in
     let m = c.in-Offer in
