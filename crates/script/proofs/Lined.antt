@@ -1,9 +1,10 @@
 -- A text line by line.
-use Rattle.std.proofs.Common.{◌≡◌, ℕ, zero, suc, ◌<◌, min, eqb, List, [], ◌∷◌, ◌++◌, length, get_or, take, drop, sym, refl, ap, ◌∙◌, subst, ⊎_elim, arith}
+use Rattle.std.proofs.Common.{◌≡◌, ℕ, zero, suc, ◌+◌, ◌<◌, ◌≤◌, min, eqb, List, [], ◌∷◌, ◌++◌, length, get_or, take, drop, sym, refl, ap, ◌∙◌, subst, ⊎_elim, arith}
 use Rattle.std.proofs.lemmas.List.{append_assoc, append-nil, take_all}
-use Rattle.std.proofs.lemmas.Bool.{cases_lt, cond-false, cond-true, eq-eqb, ne_eqb}
+use Rattle.std.proofs.lemmas.Bool.{cases_lt, cond-false, cond-true, cond_both, eq-eqb, ne_eqb}
 use Rattle.script.specs.Desk.{DeskView, Performs}
 use Rattle.script.specs.Scripts.{PerformsAll, before, lines}
+use Rattle.script.specs.Sheets.{Printed}
 
 ended : (b : ℕ) (bytes : List ℕ) → b ≡ 10 → lines (b ∷ bytes) ≡ [] ∷ lines bytes
 ended b bytes e = cond-true (eqb b 10) ([] ∷ lines bytes) (before b (lines bytes)) (eq-eqb b 10 e)
@@ -25,6 +26,18 @@ last_line (b ∷ []) some clear = going_on b [] (clear 0 (omega arith))
 last_line (b ∷ (y ∷ bytes)) some clear =
     going_on b (y ∷ bytes) (clear 0 (omega arith)) ∙ ap (before b) (last_line (y ∷ bytes) (omega arith) (λ k h. clear (suc k) (omega arith)))
 
+-- no more lines than bytes
+
+length_before : (b : ℕ) (ls : List (List ℕ)) → length (before b ls) ≤ suc (length ls)
+length_before b [] = omega arith
+length_before b (l ∷ ls) = omega arith
+
+pub few_lines : (bytes : List ℕ) → length (lines bytes) ≤ length bytes
+few_lines [] = omega arith
+few_lines (b ∷ bytes) =
+    let few = few_lines bytes in
+    cond_both (eqb b 10) ([] ∷ lines bytes) (before b (lines bytes)) (λ ls. length ls ≤ suc (length bytes)) (λ _. omega (arith, few)) (λ _. omega (arith, few, length_before b (lines bytes)))
+
 -- a text cut at the longest script
 pub cut : (input : List ℕ) (n : ℕ) → n ≡ min (length input) 32768 → take 32768 input ≡ take n input
 cut input n e =
@@ -34,9 +47,11 @@ cut input n e =
     (cases_lt (length input) 32768)
 
 -- one line more
-pub runs_more : (d between after : DeskView) (done : List (List ℕ)) (line bytes sheet : List ℕ) → PerformsAll d done between bytes → Performs between line after sheet → PerformsAll d (done ++ (line ∷ [])) after (bytes ++ sheet)
-runs_more d between after [] line bytes sheet all one =
-    (after, sheet, [], subst (λ b. Performs b line after sheet) all.0 one, (refl, refl), ap (λ bs. bs ++ sheet) all.1 ∙ sym (append-nil sheet))
-runs_more d between after (l ∷ ls) line bytes sheet all one =
+pub runs_more : (d between after : DeskView) (index : ℕ) (done : List (List ℕ)) (line bytes sheet : List ℕ) → PerformsAll d index done between bytes → Printed line sheet (λ a. Performs between (index + length done) line a after) → PerformsAll d index (done ++ (line ∷ [])) after (bytes ++ sheet)
+runs_more d between after index [] line bytes sheet all (a, one, printed) =
+    let same : index + 0 ≡ index = omega arith in
+    (after, sheet, [], (a, subst (λ b. Performs b index line a after) all.0 (subst (λ n. Performs between n line a after) same one), printed), (refl, refl), ap (λ bs. bs ++ sheet) all.1 ∙ sym (append-nil sheet))
+runs_more d between after index (l ∷ ls) line bytes sheet all (a, one, printed) =
     let rest = all.2 in
-    (all.0, all.1, rest ++ sheet, all.3, runs_more all.0 between after ls line rest sheet all.4 one, ap (λ bs. bs ++ sheet) all.5 ∙ append_assoc all.1 rest sheet)
+    let same : index + length (l ∷ ls) ≡ index + 1 + length ls = omega arith in
+    (all.0, all.1, rest ++ sheet, all.3, runs_more all.0 between after (index + 1) ls line rest sheet all.4 (a, subst (λ n. Performs between n line a after) same one, printed), ap (λ bs. bs ++ sheet) all.5 ∙ append_assoc all.1 rest sheet)

@@ -30,7 +30,7 @@ use Rattle.script.specs.Standing.Makes.{moves, commit_refused, write_refused, of
 use Rattle.script.proofs.Further.{as_it_is, further, kept_after, kept_now}
 use Rattle.script.proofs.Held.{length_blank}
 use Rattle.script.proofs.Posted.{length_posted}
-use Rattle.script.proofs.Refused.{by_decision, commit_faults, commit_number, offer_faults, offer_number, short_offer, write_faults, write_number}
+use Rattle.script.proofs.Refused.{by_decision, commit_faults, commit_refused_by, offer_faults, offer_refused_by, short_offer, write_faults, write_refused_by}
 
 -- a table's open transaction has its own ticket
 own_holds : (v : View) (pending : List Action) → holds on_hand (with_transaction true pending v) (ticket on_hand v) ≡ true
@@ -153,7 +153,7 @@ module _ (group : Group) (three : group.sites ≡ 3) (run : List Event) (d : Des
             let call : Call = Commits t blank (Err (e, t)) blank in
             let calls : List Event = at site (Abandons t (Ok tt)) ∷ (at site call ∷ (at site (writes (Ok (next_time u))) ∷ (at site opens ∷ []))) in
             let refused = on so_far call x x write_ran (is, refl, refl, refl) tt in
-            (calls, commit_refused site article slot amount t (next_time u) e (commit_number x t (shown e) (own_holds v x.pending) is), on (at site call ∷ so_far) (Abandons t (Ok tt)) x (abandoned x) refused (own_ticket v x.pending, refl) tt, kept_after calls run held kept, refl, (as_before, refl))
+            (calls, commit_refused site article slot amount t (next_time u) e (commit_refused_by x t (shown e) (own_holds v x.pending) rests.places_are is), on (at site call ∷ so_far) (Abandons t (Ok tt)) x (abandoned x) refused (own_ticket v x.pending, refl) tt, kept_after calls run held kept, refl, (as_before, refl))
 
         write_granted_goes : Goes c held (outcome_once_written v x (next_time u) held)
         write_granted_goes =
@@ -163,7 +163,7 @@ module _ (group : Group) (three : group.sites ≡ 3) (run : List Event) (d : Des
       write_refused_goes e is =
           let calls : List Event = at site (Abandons t (Ok tt)) ∷ (at site (writes (Err e)) ∷ (at site opens ∷ [])) in
           let refused = on (at site opens ∷ run) (writes (Err e)) u u open_ran (omega arith, fits, (is, refl)) tt in
-          (calls, write_refused site article slot amount t e (write_number u t article amount (shown e) (own_holds v v.pending) known none is), on (at site (writes (Err e)) ∷ (at site opens ∷ run)) (Abandons t (Ok tt)) u (abandoned u) refused (own_ticket v v.pending, refl) tt, kept_after calls run held kept, refl, (as_before, refl))
+          (calls, write_refused site article slot amount t e (write_refused_by u t article amount (shown e) (own_holds v v.pending) known none is), on (at site (writes (Err e)) ∷ (at site opens ∷ run)) (Abandons t (Ok tt)) u (abandoned u) refused (own_ticket v v.pending, refl) tt, kept_after calls run held kept, refl, (as_before, refl))
 
       open_granted_goes : Goes c held (outcome_once_opened v u article amount held)
       open_granted_goes = by_decision (Goes c held) (write_refusal on_hand u t article 1 amount) (refused_at (abandoned u) held) (outcome_once_written v x (next_time u) held) (write_faults u t article 1 amount) write_refused_goes write_granted_goes
@@ -196,7 +196,7 @@ module _ (group : Group) (three : group.sites ≡ 3) (run : List Event) (d : Des
     offer_refused_goes : (e : TableFault) → offer_refusal on_hand v peer article blank ≡ Some (shown e) → Goes offer held (refused_at v held (shown e))
     offer_refused_goes e is =
         let call : Call = Offers peer article blank (Err e) blank in
-        (at site call ∷ [], offers site peer article slot blank (Err e) (offer_number v peer article blank (shown e) fits is), on run call v v start ((is, refl), refl) tt, kept_after (at site call ∷ []) run held kept, shut, (refl, refl))
+        (at site call ∷ [], offers site peer article slot blank (Err e) (offer_refused_by v peer article blank (shown e) fits is), on run call v v start ((is, refl), refl) tt, kept_after (at site call ∷ []) run held kept, shut, (refl, refl))
 
     pub offer_goes : Goes offer held (offer_outcome v peer article held)
     offer_goes = by_decision (Goes offer held) (offer_refusal on_hand v peer article blank) (refused_at v held) (record { table = v; slot = bytes; answer = Ok (Length (length bytes)) }) (offer_faults v peer article blank) offer_refused_goes offer_granted_goes

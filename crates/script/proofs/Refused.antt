@@ -3,7 +3,7 @@ use Rattle.std.proofs.Common.{◌≡◌, ℕ, ◌+◌, ◌≤◌, ◌⊎◌, Boo
 use Rattle.std.proofs.lemmas.Bool.{cond-true, cond_both, le-leb}
 use Rattle.std.proofs.lemmas.List.Filters.{length-filter_both}
 use Rattle.action.specs.declared.refusals.Refusal.{Refusal}
-use Rattle.action.specs.Lawful.{unless}
+use Rattle.action.specs.Lawful.{by_history, by_table, unless}
 use Rattle.history.specs.declared.faults.HistoryFault.TheVariants.{Full}
 use Rattle.kind.specs.Meanings.{on_hand, on_hand_knows}
 use Rattle.table.specs.declared.faults.TableFault.{TableFault}
@@ -48,14 +48,14 @@ pub by_decision : {X : Type 0} (P : X → Type 0) (o : Option Refusal) (refused 
 by_decision P None refused granted faults when_refused when_granted = when_granted refl
 by_decision P (Some r) refused granted (e, is) when_refused when_granted = subst (λ (y : Refusal). P (refused y)) is (when_refused e (ap Some (sym is)))
 
--- THE NUMBERS OF A MOVEMENT
+-- WHAT REFUSES A MOVEMENT
 
 -- a check that passes does not decide
 past : (passes : Bool) (r : Refusal) (rest o : Option Refusal) → passes ≡ true → unless passes r rest ≡ o → rest ≡ o
 past passes r rest o t is = sym (cond-true passes rest (Some r) t) ∙ is
 
 -- a call is refused by a check, or by one of those after it
-decides : (passes : Bool) (r s : Refusal) (rest : Option Refusal) → unless passes r rest ≡ Some s → (r ≡ s) ⊎ (rest ≡ Some s)
+decides : (passes : Bool) (r s : Refusal) (rest : Option Refusal) → unless passes r rest ≡ Some s → (s ≡ r) ⊎ (rest ≡ Some s)
 decides true r s rest is = inr is
 decides false r s rest is = inl cc
 
@@ -63,27 +63,27 @@ no_refusal : (s : Refusal) → None ≡ Some s → ⊥
 no_refusal s is = cc
 
 -- with its own ticket, no other write and a pair that the kind knows
-pub write_number : (v : View) (t : Ticket) (article : ℕ) (amount : ℤ) (s : Refusal) → holds on_hand v t ≡ true → on_hand_knows 1 amount ≡ true → v.pending ≡ [] → write_refusal on_hand v t article 1 amount ≡ Some s → (s.number ≡ 4) ⊎ (s.number ≡ 8)
-write_number v t article amount s held known none is =
-    let number : Refusal → ℕ = λ r. r.number in
+pub write_refused_by : (v : View) (t : Ticket) (article : ℕ) (amount : ℤ) (s : Refusal) → holds on_hand v t ≡ true → on_hand_knows 1 amount ≡ true → v.pending ≡ [] → write_refusal on_hand v t article 1 amount ≡ Some s → (s ≡ by_table 4 0) ⊎ (s ≡ by_table 8 0)
+write_refused_by v t article amount s held known none is =
     let few : ltb (length v.pending) 16 ≡ true = ap (λ xs. ltb (length xs) 16) none in
     ⊎_elim
-    (λ same. inl (sym (ap number same)))
+    inl
     (λ others.
     ⊎_elim
-    (λ same. inr (sym (ap number same)))
+    inr
     (λ none. absurd (no_refusal s none))
     (decides (leb (next_time v) 4000000000) _ s None (past (ltb (length v.pending) 16) _ _ (Some s) few (past (on_hand_knows 1 amount) _ _ (Some s) known others))))
     (decides (ltb article v.setup.articles) _ s _ (past (holds on_hand v t) _ _ (Some s) held is))
 
-pub commit_number : (v : View) (t : Ticket) (s : Refusal) → holds on_hand v t ≡ true → commit_refusal on_hand v t ≡ Some s → s.number ≡ 16
-commit_number v t s held is =
+-- with its own ticket, and a history of 64 places
+pub commit_refused_by : (v : View) (t : Ticket) (s : Refusal) → holds on_hand v t ≡ true → v.capacity ≡ 64 → commit_refusal on_hand v t ≡ Some s → s ≡ by_history 16 64
+commit_refused_by v t s held places is =
     ⊎_elim
-    (λ (same : ◌≡◌ {A = Refusal} _ s). sym (ap (λ (r : Refusal). r.number) same))
+    (λ full. full ∙ ap (by_history 16) places)
     (λ none. absurd (no_refusal s none))
     (decides (leb (length v.history + length v.pending) v.capacity) _ s None (past (holds on_hand v t) _ _ (Some s) held is))
 
--- THE NUMBERS OF AN OFFER
+-- WHAT REFUSES AN OFFER
 
 -- three sites, and a history of 64 places
 pub short_offer : (v : View) (p a : ℕ) → Sound on_hand v → v.setup.sites ≡ 3 → v.capacity ≡ 64 → length (offer_bytes on_hand v p a) ≤ length blank
@@ -92,15 +92,14 @@ short_offer v p a sound three places =
     omega (arith, length_offer on_hand v p a, few, sound.held, three, places, length_blank)
 
 -- with room for the offer
-pub offer_number : (v : View) (p a : ℕ) (buffer : List ℕ) (s : Refusal) → length (offer_bytes on_hand v p a) ≤ length buffer → offer_refusal on_hand v p a buffer ≡ Some s → (s.number ≡ 4) ⊎ (s.number ≡ 5)
-offer_number v p a buffer s fits is =
-    let number : Refusal → ℕ = λ r. r.number in
+pub offer_refused_by : (v : View) (p a : ℕ) (buffer : List ℕ) (s : Refusal) → length (offer_bytes on_hand v p a) ≤ length buffer → offer_refusal on_hand v p a buffer ≡ Some s → (s ≡ by_table 4 0) ⊎ (s ≡ by_table 5 0)
+offer_refused_by v p a buffer s fits is =
     let long = length (offer_bytes on_hand v p a) in
     ⊎_elim
-    (λ same. inl (sym (ap number same)))
+    inl
     (λ others.
     ⊎_elim
-    (λ same. inr (sym (ap number same)))
+    inr
     (λ short. absurd (no_refusal s (past (leb long (length buffer)) _ _ (Some s) (le-leb long (length buffer) fits) short)))
     (decides (ltb p v.setup.sites) _ s _ others))
     (decides (ltb a v.setup.articles) _ s _ is)

@@ -1,6 +1,6 @@
 -- A desk that stands at the end of a run stands at the end of a longer one after each command, line and script;
 -- and a new desk stands at the end of a run of no events.
-use Rattle.std.proofs.Common.{◌≡◌, ℕ, zero, suc, ◌<◌, Bool, true, false, cond, ltb, List, [], ◌∷◌, ◌++◌, get_or, set, replicate, ℤ, IfSome, Some, None, Ok, Err, OnErr, Option, Result, sym, refl, ap, ◌∙◌, subst, arith, w64, SFits, rules}
+use Rattle.std.proofs.Common.{◌≡◌, ℕ, zero, suc, ◌+◌, ◌<◌, Bool, true, false, cond, ltb, List, [], ◌∷◌, ◌++◌, length, get_or, set, replicate, ℤ, IfSome, Some, None, Ok, Err, OnErr, Option, Result, sym, refl, ap, ◌∙◌, subst, arith, w64, SFits, rules}
 use Rattle.std.specs.List.{AllByRecursion}
 use Rattle.std.specs.declared.alloc.AllocError.{AllocError}
 use Rattle.std.proofs.lemmas.Bool.{ltb-true}
@@ -21,10 +21,11 @@ use Rattle.runs.proofs.Standing.{Standing}
 use Rattle.script.specs.declared.answers.Answer.TheVariants as Answers
 use Rattle.script.specs.declared.commands.Command.{Command}
 use Rattle.script.specs.declared.commands.Command.TheVariants.{Move, Offer, Take, Figure, OpenItem}
-use Rattle.script.specs.Acts.{Outcome, Reply, by_refusal, figure_reply, open_item_reply, refuse, take_reply}
+use Rattle.script.specs.Acts.{Outcome, Reply, by_refusal, figure_reply, open_item_reply, take_reply}
 use Rattle.script.specs.Desk.{Acts, ActsAt, DeskView, FreshDesk, FreshSite, Performs, PerformsCommand, SiteTurn, site_turn, table_at, with_slots, with_table}
 use Rattle.script.specs.Lines.{command}
 use Rattle.script.specs.Scripts.{PerformsAll, Scripted}
+use Rattle.script.specs.Sheets.{Printed}
 use Rattle.script.specs.Standing.{AfterRun, Kept, LineStands, Makes, MakesLine, NewStands, PlaysAll, ScriptStands, counted_figure}
 use Rattle.script.specs.Standing.Makes.{takes, figures, open_items}
 use Rattle.script.proofs.Further.{kept_at, slots_kept, slots_stay, stands_further}
@@ -57,7 +58,7 @@ on_err (Ok b) x = tt
 on_err (Err n) x = x
 
 -- a figure, or refused by 4
-figure_or_four : (known : Bool) (z y : ℤ) → (known ≡ true → z ≡ y) → by_refusal (unless known (by_table 4 0) None) refuse (Ok (Answers.Figure z)) ≡ cond known (Ok (Answers.Figure y)) (Err 4)
+figure_or_four : (known : Bool) (z y : ℤ) → (known ≡ true → z ≡ y) → by_refusal (unless known (by_table 4 0) None) Err (Ok (Answers.Figure z)) ≡ cond known (Ok (Answers.Figure y)) (Err (by_table 4 0))
 figure_or_four true z y same = ap (λ f. Ok (Answers.Figure f)) (same refl)
 figure_or_four false z y same = refl
 
@@ -127,7 +128,7 @@ module _ (group : Group) (run : List Event) (d : DeskView) (stood : AfterRun gro
     counts : (article : ℕ) → figure_reply (table_at d site) article ≡ counted_figure group run site article
     counts article =
         let law = on_hand_counted group run (table_at d) stood.ran in
-        ap (λ n. by_refusal (unless (ltb article n) (by_table 4 0) None) refuse (Ok (Answers.Figure (figure (table_at d site) article)))) rests.articles_are ∙ figure_or_four (ltb article 4) _ _ (λ known. law.figured site article inside (omega (arith, ltb-true article 4 known, stood.articles_are)))
+        ap (λ n. by_refusal (unless (ltb article n) (by_table 4 0) None) Err (Ok (Answers.Figure (figure (table_at d site) article)))) rests.articles_are ∙ figure_or_four (ltb article 4) _ _ (λ known. law.figured site article inside (omega (arith, ltb-true article 4 known, stood.articles_are)))
 
   command_goes_on : (c : Command) (a : Reply) (after : DeskView) → Ranged c → Acts d c a after → Goes_on c a after
   command_goes_on (Move site article amount slot) a after ranged is =
@@ -144,32 +145,35 @@ module _ (group : Group) (run : List Event) (d : DeskView) (stood : AfterRun gro
 
 -- ONE LINE, AND ONE AFTER ANOTHER
 
-pub line_stands : (d : DeskView) (line : List ℕ) (after : DeskView) (bytes : List ℕ) → Performs d line after bytes → LineStands d line after bytes
-line_stands d line after bytes runs group run stood =
-    let goes = by_command (command line) (command_ranged line) runs in
-    (goes.0, (runs, goes.1, goes.2))
+pub line_stands : (d : DeskView) (index : ℕ) (line : List ℕ) (a : Reply) (after : DeskView) → Performs d index line a after → LineStands d index line a after
+line_stands d index line a after performs group run stood =
+    let goes = by_command (command line) (command_ranged line) performs in
+    (goes.0, (performs, goes.1, goes.2))
   where
-    by_command : (o : Option Command) → IfSome o Ranged → PerformsCommand d o after bytes → (calls : List Event) × MakesLine group run d o calls after bytes × AfterRun group (calls ++ run) after
+    by_command : (o : Option Command) → IfSome o Ranged → PerformsCommand d index o a after → (calls : List Event) × MakesLine group run d index o a calls after × AfterRun group (calls ++ run) after
     by_command None ranged is = ([], (refl, is.0, is.1), subst (AfterRun group run) (sym is.0) stood)
     by_command (Some c) ranged is =
-        let goes = command_goes_on group run d stood c is.0 after ranged is.1 in
-        (goes.0, (is.0, goes.1, goes.2, is.2), goes.3)
+        let goes = command_goes_on group run d stood c a after ranged is in
+        (goes.0, (goes.1, goes.2), goes.3)
 
-lines_stand : (group : Group) (run : List Event) (d : DeskView) (lines : List (List ℕ)) (after : DeskView) (bytes : List ℕ) → PerformsAll d lines after bytes → AfterRun group run d → (later : List Event) × PlaysAll group run d lines later after bytes × AfterRun group later after
-lines_stand group run d [] after bytes is stood = (run, (refl, is.0, is.1), subst (AfterRun group run) (sym is.0) stood)
-lines_stand group run d (line ∷ lines) after bytes (between, sheet, rest, first, others, is) stood =
-    let one = line_stands d line between sheet first group run stood in
-    let all = lines_stand group (one.0 ++ run) between lines after rest others one.1.2 in
-    (all.0, (one.0, between, sheet, rest, one.1, all.1, is), all.2)
+pub sheet_stands : (d : DeskView) (index : ℕ) (line : List ℕ) (after : DeskView) (bytes : List ℕ) → Printed line bytes (λ a. Performs d index line a after) → Printed line bytes (λ a. LineStands d index line a after)
+sheet_stands d index line after bytes (a, performs, printed) = (a, line_stands d index line a after performs, printed)
+
+lines_stand : (group : Group) (run : List Event) (d : DeskView) (index : ℕ) (lines : List (List ℕ)) (after : DeskView) (bytes : List ℕ) → PerformsAll d index lines after bytes → AfterRun group run d → (later : List Event) × PlaysAll group run d index lines later after bytes × AfterRun group later after
+lines_stand group run d index [] after bytes is stood = (run, (refl, is.0, is.1), subst (AfterRun group run) (sym is.0) stood)
+lines_stand group run d index (line ∷ lines) after bytes (between, sheet, rest, (a, first, printed), others, is) stood =
+    let one = line_stands d index line a between first group run stood in
+    let all = lines_stand group (one.0 ++ run) between (index + 1) lines after rest others one.1.2 in
+    (all.0, (one.0, between, sheet, rest, (a, one.1, printed), all.1, is), all.2)
 
 pub script_stands : (d : DeskView) (input out : List ℕ) (capacity : ℕ) (r : Result Unit AllocError) (after : DeskView) (grown : List ℕ) → Scripted d input out capacity r after grown → ScriptStands d input out capacity r after grown
 script_stands d input out capacity (Ok _) after grown (sheet, all, is) group run stood =
-    let stands = lines_stand group run d _ after sheet all stood in
+    let stands = lines_stand group run d 0 _ after sheet all stood in
     (stands.0, sheet, stands.1, stands.2, is)
-script_stands d input out capacity (Err _) after grown (done, line, rest, split, between, sheet, lost, all, last, is, full) group run stood =
-    let stands = lines_stand group run d done between sheet all stood in
-    let one = line_stands between line after lost last group stands.0 stands.2 in
-    (done, line, rest, split, stands.0, between, sheet, stands.1, one.0, lost, one.1, is, full)
+script_stands d input out capacity (Err _) after grown (done, line, rest, split, between, sheet, lost, all, (a, last, printed), is, full) group run stood =
+    let stands = lines_stand group run d 0 done between sheet all stood in
+    let one = line_stands between (length done) line a after last group stands.0 stands.2 in
+    (done, line, rest, split, stands.0, between, sheet, stands.1, one.0, lost, (a, one.1, printed), is, full)
 
 -- A NEW DESK
 

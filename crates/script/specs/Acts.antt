@@ -12,12 +12,12 @@ use Rattle.table.specs.View.{View}
 use Rattle.script.specs.declared.answers.Answer.{Answer}
 use Rattle.script.specs.declared.answers.Answer.TheVariants.{Time, Length, Taken, Figure, IsOpen}
 use Rattle.script.specs.declared.faults.LineFault.{LineFault}
-use Rattle.script.specs.Faults.{number_of}
+use Rattle.script.specs.Faults as LineFaults
 use Rattle.script.specs.Slots.{blank}
 
--- what a command answers, or the number that it is refused by
+-- what a command answers, or by what it is refused
 abbrev pub Reply : Type 0
-Reply = Result Answer ℕ
+Reply = Result Answer Refusal
 
 -- what a command leaves of its site's table and of its slot, and what it answers
 pub record Outcome : Type 0 where
@@ -30,12 +30,9 @@ abbrev pub by_refusal : {X : Type 0} → Option Refusal → (Refusal → X) → 
 by_refusal None refused granted = granted
 by_refusal (Some r) refused granted = refused r
 
-abbrev pub refuse : Refusal → Reply
-refuse r = Err r.number
-
 -- the slot stays, and the refusal is answered
 abbrev pub refused_at : View → List ℕ → Refusal → Outcome
-refused_at v slot r = record { table = v; slot = slot; answer = refuse r }
+refused_at v slot r = record { table = v; slot = slot; answer = Err r }
 
 -- M, with the write done: commit into the slot, or abandon
 abbrev pub outcome_once_written : View → View → ℕ → List ℕ → Outcome
@@ -71,7 +68,7 @@ offer_outcome v peer article slot =
 -- how many actions were new, or the refusal
 abbrev pub take_reply : Result ℕ TableFault → Reply
 take_reply (Ok n) = Ok (Taken n)
-take_reply (Err e) = refuse (shown e)
+take_reply (Err e) = Err (shown e)
 
 -- T: the message in the slot is taken whole, or refused and nothing is changed
 abbrev pub TookSlot : View → List ℕ → Reply → View → Type 0
@@ -79,17 +76,17 @@ TookSlot v slot a after = (r : Result ℕ TableFault) × Took on_hand v slot r a
 
 -- F
 abbrev pub figure_reply : View → ℕ → Reply
-figure_reply v article = by_refusal (figure_refusal v article) refuse (Ok (Figure (figure v article)))
+figure_reply v article = by_refusal (figure_refusal v article) Err (Ok (Figure (figure v article)))
 
 -- P: does the site show an open item?
 abbrev pub open_item_reply : View → ℕ → ℕ → Reply
 open_item_reply v peer article =
-    by_refusal (open_item_refusal v article peer) refuse (Ok (IsOpen (open_item v article peer)))
+    by_refusal (open_item_refusal v article peer) Err (Ok (IsOpen (open_item v article peer)))
 
 -- the reply that a command's result stands for
 abbrev pub reply_of : Result Answer LineFault → Reply
 reply_of (Ok a) = Ok a
-reply_of (Err e) = Err (number_of e)
+reply_of (Err e) = Err (LineFaults.shown e)
 
 -- what the two commands that write into a slot leave and answer
 

@@ -1,5 +1,6 @@
--- What a line does to the desk, and what it prints. Assumes nothing.
+-- What a line does to the desk, and what it answers. Assumes nothing.
 use Rattle.std.specs.Prelude.{◌≡◌, ℕ, zero, suc, List, [], replicate, Some, None, Err, Option, Result, slice_index_or, slice_set}
+use Rattle.action.specs.Lawful.{by_table}
 use Rattle.kind.specs.Meanings.{on_hand}
 use Rattle.table.specs.View.{View, fresh}
 use Rattle.script.specs.declared.answers.Answer.{Answer}
@@ -8,7 +9,6 @@ use Rattle.script.specs.declared.commands.Command.TheVariants.{Move, Offer, Take
 use Rattle.script.specs.declared.faults.LineFault.{LineFault}
 use Rattle.script.specs.Acts.{Outcome, Reply, TookSlot, figure_reply, move_outcome, offer_outcome, open_item_reply, reply_of}
 use Rattle.script.specs.Lines.{command, site_of}
-use Rattle.script.specs.Sheets.{printed_line}
 
 -- the tables of sites 0, 1 and 2, and for each slot the message in it
 pub record DeskView : Type 0 where
@@ -84,19 +84,11 @@ Acts d c a after =
 abbrev pub Acted : DeskView → Command → Result Answer LineFault → DeskView → Type 0
 Acted d c r after = Acts d c (reply_of r) after
 
--- the letter that a command is printed under
-abbrev pub letter : Command → ℕ
-letter (Move site article amount slot) = 77
-letter (Offer site peer article slot) = 79
-letter (Take site slot) = 84
-letter (Figure site article) = 70
-letter (OpenItem site peer article) = 80
+-- a line of no known form changes nothing, and is refused by 18 at its number
+abbrev pub PerformsCommand : DeskView → ℕ → Option Command → Reply → DeskView → Type 0
+PerformsCommand d index None a after = (after ≡ d) × (a ≡ Err (by_table 18 index))
+PerformsCommand d index (Some c) a after = Acts d c a after
 
--- a line of no known form changes nothing, and is printed under `?` as refused by 18
-abbrev pub PerformsCommand : DeskView → Option Command → DeskView → List ℕ → Type 0
-PerformsCommand d None after bytes = (after ≡ d) × (bytes ≡ printed_line 63 (Err 18))
-PerformsCommand d (Some c) after bytes = (a : Reply) × Acts d c a after × (bytes ≡ printed_line (letter c) a)
-
--- a line, the desk that it leaves and what it prints
-abbrev pub Performs : DeskView → List ℕ → DeskView → List ℕ → Type 0
-Performs d line after bytes = PerformsCommand d (command line) after bytes
+-- the line of this number, what it answers and the desk that it leaves
+abbrev pub Performs : DeskView → ℕ → List ℕ → Reply → DeskView → Type 0
+Performs d index line a after = PerformsCommand d index (command line) a after

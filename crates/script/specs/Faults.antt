@@ -1,10 +1,11 @@
--- By which number a line is refused. Assumes nothing.
-use Rattle.std.specs.Prelude.{ℕ}
-use Rattle.table.specs.Faults.{shown}
+-- A line's fault by number, place and layer. Assumes nothing.
+use Rattle.action.specs.declared.refusals.Refusal.{Refusal}
+use Rattle.action.specs.Lawful.{by_table}
+use Rattle.table.specs.Faults as TableFaults
 use Rattle.script.specs.declared.faults.LineFault.{LineFault}
 use Rattle.script.specs.declared.faults.LineFault.TheVariants.{NoKnownForm, Table}
 
--- a line of no known form is refused by 18, and any other as its site's table refuses
-abbrev pub number_of : LineFault → ℕ
-number_of NoKnownForm = 18
-number_of (Table fault) = (shown fault).number
+-- a line of no known form is refused by 18 at the line's number, and any other as its site's table refuses
+abbrev pub shown : LineFault → Refusal
+shown (NoKnownForm line) = by_table 18 line
+shown (Table fault) = TableFaults.shown fault

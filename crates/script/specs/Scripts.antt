@@ -2,6 +2,7 @@
 use Rattle.std.specs.Prelude.{◌≡◌, ℕ, ◌+◌, ◌<◌, cond, List, [], ◌∷◌, ◌++◌, length, take, Ok, Err, Result, ◌==◌}
 use Rattle.std.specs.declared.alloc.AllocError.{AllocError}
 use Rattle.script.specs.Desk.{DeskView, Performs}
+use Rattle.script.specs.Sheets.{Printed}
 
 -- a byte before the first of the lines; a line of its own where there is none
 abbrev pub before : ℕ → List (List ℕ) → List (List ℕ)
@@ -17,21 +18,24 @@ lines (b ∷ bytes) = cond (b == 10) ([] ∷ lines bytes) (before b (lines bytes
 abbrev pub script : List ℕ → List (List ℕ)
 script input = lines (take 32768 input)
 
--- one line after another, the desk that they leave and all that they print
-abbrev pub PerformsAll : DeskView → List (List ℕ) → DeskView → List ℕ → Type 0
-PerformsAll d [] after bytes = (after ≡ d) × (bytes ≡ [])
-PerformsAll d (line ∷ lines) after bytes =
+-- one line after another from the number of the first, the desk that they leave and all that they print
+abbrev pub PerformsAll : DeskView → ℕ → List (List ℕ) → DeskView → List ℕ → Type 0
+PerformsAll d index [] after bytes = (after ≡ d) × (bytes ≡ [])
+PerformsAll d index (line ∷ lines) after bytes =
     (between : DeskView) × (sheet : List ℕ) × (rest : List ℕ) ×
-    Performs d line between sheet × PerformsAll between lines after rest × (bytes ≡ sheet ++ rest)
+    Printed line sheet (λ a. Performs d index line a between) ×
+    PerformsAll between (index + 1) lines after rest ×
+    (bytes ≡ sheet ++ rest)
 
--- all lines are run and printed; or some are, and one more is run, whose bytes do not fit: what was to be
--- printed with them is longer than the capacity that the output had
+-- all lines, numbered from 0, are run and printed; or some are, and one more is run, whose bytes do not fit:
+-- what was to be printed with them is longer than the capacity that the output had
 abbrev pub Scripted : DeskView → List ℕ → List ℕ → ℕ → Result Unit AllocError → DeskView → List ℕ → Type 0
 Scripted d input out capacity (Ok _) after grown =
-    (sheet : List ℕ) × PerformsAll d (script input) after sheet × (grown ≡ out ++ sheet)
+    (sheet : List ℕ) × PerformsAll d 0 (script input) after sheet × (grown ≡ out ++ sheet)
 Scripted d input out capacity (Err _) after grown =
     (done : List (List ℕ)) × (line : List ℕ) × (later : List (List ℕ)) ×
     (script input ≡ done ++ (line ∷ later)) ×
     (between : DeskView) × (sheet : List ℕ) × (lost : List ℕ) ×
-    PerformsAll d done between sheet × Performs between line after lost ×
+    PerformsAll d 0 done between sheet ×
+    Printed line lost (λ a. Performs between (length done) line a after) ×
     (grown ≡ out ++ sheet) × (capacity < length grown + length lost)

@@ -1,9 +1,12 @@
 -- What is printed for a line. Assumes nothing.
-use Rattle.std.specs.Prelude.{ℕ, cond, List, [], ◌∷◌, ◌++◌, Ok, Err, codes, decimal}
+use Rattle.std.specs.Prelude.{◌≡◌, ℕ, cond, List, [], ◌∷◌, ◌++◌, Some, None, Ok, Err, Option, codes, decimal}
 use Rattle.std.specs.Fmt.{signed_decimal}
-use Rattle.script.specs.declared.answers.Answer.TheVariants.{Time, Length, Taken, Figure, IsOpen}
+use Rattle.script.specs.declared.answers.Answer.TheVariants as Answers
+use Rattle.script.specs.declared.commands.Command.{Command}
+use Rattle.script.specs.declared.commands.Command.TheVariants.{Move, Offer, Take, Figure, OpenItem}
 use Rattle.script.specs.declared.sheets.SheetLine.{SheetLine}
 use Rattle.script.specs.Acts.{Reply}
+use Rattle.script.specs.Lines.{command}
 
 -- the bytes of a printed line
 abbrev pub sheet_bytes : SheetLine → List ℕ
@@ -11,13 +14,30 @@ sheet_bytes s = s.text.items
 
 -- a blank and the answer, of which an open item is 1 and none is 0; or ` refused ` and the refusal's number
 abbrev pub answer_bytes : Reply → List ℕ
-answer_bytes (Ok (Time t)) = 32 ∷ decimal t
-answer_bytes (Ok (Length n)) = 32 ∷ decimal n
-answer_bytes (Ok (Taken n)) = 32 ∷ decimal n
-answer_bytes (Ok (Figure z)) = 32 ∷ signed_decimal z
-answer_bytes (Ok (IsOpen b)) = 32 ∷ decimal (cond b 1 0)
-answer_bytes (Err n) = codes " refused " ++ decimal n
+answer_bytes (Ok (Answers.Time t)) = 32 ∷ decimal t
+answer_bytes (Ok (Answers.Length n)) = 32 ∷ decimal n
+answer_bytes (Ok (Answers.Taken n)) = 32 ∷ decimal n
+answer_bytes (Ok (Answers.Figure z)) = 32 ∷ signed_decimal z
+answer_bytes (Ok (Answers.IsOpen b)) = 32 ∷ decimal (cond b 1 0)
+answer_bytes (Err r) = codes " refused " ++ decimal r.number
 
 -- the letter, the answer and the byte that ends the line
 abbrev pub printed_line : ℕ → Reply → List ℕ
 printed_line letter answer = letter ∷ (answer_bytes answer ++ (10 ∷ []))
+
+-- the letter that a command is printed under
+abbrev pub letter : Command → ℕ
+letter (Move site article amount slot) = 77
+letter (Offer site peer article slot) = 79
+letter (Take site slot) = 84
+letter (Figure site article) = 70
+letter (OpenItem site peer article) = 80
+
+-- a line of no known form is printed under `?`
+abbrev pub line_letter : Option Command → ℕ
+line_letter None = 63
+line_letter (Some c) = letter c
+
+-- these bytes are printed for the line, and P holds of what it answers
+abbrev pub Printed : List ℕ → List ℕ → (Reply → Type 0) → Type 0
+Printed line bytes P = (a : Reply) × P a × (bytes ≡ printed_line (line_letter (command line)) a)

@@ -1,6 +1,6 @@
 ghost use Rattle.std.specs.Prelude.{◌≡◌, ◌<◌};
-ghost use Rattle.script.specs.Desk.{letter};
 ghost use Rattle.script.specs.Lines.{site_of};
+ghost use Rattle.script.specs.Sheets.{letter};
 
 // What a line asks of the desk: which site acts, and on what. A site, a peer, an article and a slot
 // are a digit each. Each form has its fields as its line writes them, the site too: a struct of

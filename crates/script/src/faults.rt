@@ -1,14 +1,15 @@
 ghost use Rattle.std.specs.Prelude.{◌≡◌};
-ghost use Rattle.script.specs.Faults.{number_of};
+ghost use Rattle.script.specs.Faults.{shown};
 ghost use Rattle.script.specs.declared.faults.LineFault.TheVariants.{Table as Carried};
 
-use action::Refusal;
+use action::{Layer, Refusal};
 use table::TableFault;
 
 // Why a line was refused: it has no known form, or the table of its site refused.
 #[derive(Clone, Copy, Debug, PartialEq, Eq)]
 pub enum LineFault {
-    NoKnownForm,
+    // The line's number, the first being 0.
+    NoKnownForm(usize),
     Table(TableFault),
 }
 
@@ -20,15 +21,17 @@ impl From<TableFault> for LineFault {
     }
 }
 
-impl LineFault {
-    // The number that the line is refused by: all that a sheet says of a refusal, so there is no `From` for
-    // `Refusal`.
-    pub fn number(&self) -> u8
-        ensures { result ≡ number_of self.now }
-    {
-        match *self {
-            LineFault::NoKnownForm => 18,
-            LineFault::Table(fault) => Refusal::from(fault).number,
+impl From<LineFault> for Refusal {
+    ghost from_gives = { λ e r. r ≡ shown e };
+
+    fn from(fault: LineFault) -> Refusal {
+        match fault {
+            LineFault::NoKnownForm(line) => Refusal {
+                number: 18,
+                place: line,
+                layer: Layer::Table,
+            },
+            LineFault::Table(fault) => fault.into(),
         }
     }
 }

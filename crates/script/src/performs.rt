@@ -1,7 +1,9 @@
 ghost use Rattle.std.specs.Prelude.{◌≡◌, ◌<◌};
-ghost use Rattle.script.specs.Desk.{Acted, ActedAt, Performs};
+ghost use Rattle.std.specs.Option.{ForSome};
+ghost use Rattle.script.specs.Acts.{reply_of};
+ghost use Rattle.script.specs.Desk.{Acted, ActedAt, Performs, PerformsCommand};
 ghost use Rattle.script.specs.Lines.{Placed};
-ghost use Rattle.script.specs.Sheets.{sheet_bytes};
+ghost use Rattle.script.specs.Sheets.{Printed, sheet_bytes};
 ghost use Rattle.script.specs.Standing.{LineStands};
 
 use crate::acts::{move_stock, offer_article, take_slot};
@@ -59,25 +61,41 @@ impl Desk {
         }
     }
 
-    // Runs one line, without the byte that ends it, and answers what is printed for it. A desk at the end of
-    // a run is then at the end of a longer one.
-    pub fn run(&mut self, line: &[u8]) -> SheetLine
-        ensures does { Performs self.old line.now self.new (sheet_bytes result) }
-        ensures stands { LineStands self.old line.now self.new (sheet_bytes result) }
+    // Runs one line, without the byte that ends it, under its number in the script, and answers what is
+    // printed for it. A desk at the end of a run is then at the end of a longer one.
+    pub fn run(&mut self, index: usize, line: &[u8]) -> SheetLine
+        ensures does { Printed line.now (sheet_bytes result) (λ a.
+            Performs self.old index line.now a self.new) }
+        ensures stands { Printed line.now (sheet_bytes result) (λ a.
+            LineStands self.old index line.now a self.new) }
     {
-        self.run_line(line)
+        let command = parse(line);
+        let letter = command.map_or('?', |command| command.letter());
+        let answer = self.perform_command(index, command);
+        print(letter, answer)
     }
 
-    // What `run` does. What it means for a run follows from this clause.
-    fn run_line(&mut self, line: &[u8]) -> SheetLine
-        ensures { Performs self.old line.now self.new (sheet_bytes result) }
+    // Does what `run` does, and answers what the line answers, unprinted: of a refusal its number, place
+    // and layer.
+    pub fn perform(&mut self, index: usize, line: &[u8]) -> Result<Answer, LineFault>
+        ensures does { Performs self.old index line.now (reply_of result) self.new }
+        ensures stands { LineStands self.old index line.now (reply_of result) self.new }
     {
-        match parse(line) {
-            Some(command) => {
-                let outcome = self.act(command);
-                print(command.letter(), outcome)
-            }
-            None => print('?', Err(LineFault::NoKnownForm)),
+        self.perform_command(index, parse(line))
+    }
+
+    // What the line of this number does, which writes the command or has no known form.
+    fn perform_command(
+        &mut self,
+        index: usize,
+        command: Option<Command>,
+    ) -> Result<Answer, LineFault>
+        requires { ForSome command Placed }
+        ensures { PerformsCommand self.old index command (reply_of result) self.new }
+    {
+        match command {
+            Some(command) => self.act(command),
+            None => Err(LineFault::NoKnownForm(index)),
         }
     }
 }

@@ -5,6 +5,7 @@ ghost use Rattle.script.specs.Sheets.{printed_line, sheet_bytes};
 use crate::answers::Answer;
 use crate::faults::LineFault;
 use crate::sheets::SheetLine;
+use action::Refusal;
 
 // The line that is printed for a command of this letter.
 pub(crate) fn print(letter: char, outcome: Result<Answer, LineFault>) -> SheetLine
@@ -17,6 +18,6 @@ pub(crate) fn print(letter: char, outcome: Result<Answer, LineFault>) -> SheetLi
         Ok(Answer::Taken(count)) => SheetLine::new(letter, b" ", count),
         Ok(Answer::Figure(figure)) => SheetLine::new(letter, b" ", figure),
         Ok(Answer::IsOpen(is_open)) => SheetLine::new(letter, b" ", u8::from(is_open)),
-        Err(fault) => SheetLine::new(letter, b" refused ", fault.number()),
+        Err(fault) => SheetLine::new(letter, b" refused ", Refusal::from(fault).number),
     }
 }

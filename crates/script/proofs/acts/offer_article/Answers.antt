@@ -5,7 +5,7 @@ use Rattle.table.specs.Offers.{offer_bytes, offer_refusal}
 use Rattle.runs.proofs.Writing.{written_back}
 use Rattle.script.specs.declared.answers.Answer.TheVariants.{Length}
 use Rattle.script.specs.Acts.{reply_of}
-use Rattle.script.specs.Faults.{number_of}
+use Rattle.script.specs.Faults.{shown}
 use Rattle.script.proofs.Held.{blank_is, offer_granted, offer_refused}
 use Rattle.script.proofs.acts.offer_article.Goals as goal
 
@@ -15,7 +15,7 @@ returns-in_err-length g c =
     let slot = c.args.slot.now in
     let fault = err_from_is_err_and c.from_residual.result c.from_residual.ensures.1 in
     let told = c.in_err-length.ensures.does in
-    (λ i. record { table = v; slot = slot; answer = (ap reply_of fault.1 ∙ ap (λ e. Err (number_of e)) fault.2) i }) ∙ offer_refused v c.args.peer c.args.article slot _ (ap (offer_refusal on_hand v c.args.peer c.args.article) (sym blank_is) ∙ told.0)
+    (λ i. record { table = v; slot = slot; answer = (ap reply_of fault.1 ∙ ap (λ e. Err (shown e)) fault.2) i }) ∙ offer_refused v c.args.peer c.args.article slot _ (ap (offer_refusal on_hand v c.args.peer c.args.article) (sym blank_is) ∙ told.0)
 
 pub returns : goal.returns
 returns g c =
