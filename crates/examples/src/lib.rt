@@ -9,6 +9,9 @@ ghost use Rattle.kind.specs.Working.{working};
 ghost use Rattle.table.specs.Sound.{Sound};
 ghost use Rattle.examples.specs.Table.{Holds, at, doing, examples, site};
 
+#[cfg(test)]
+mod tests;
+
 use action::Action;
 use kind::{Flags, Kind, OnHand, Price};
 
