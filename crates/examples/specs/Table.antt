@@ -46,12 +46,12 @@ posted v = committed on_hand (written (opened v) (new_action v 0 1 (pos 10)))
 
 -- a section on article 0, with one interval and these actions
 abbrev pub part : ℕ → ℕ → ℕ → List Action → Section
-part site from to actions =
-    record { article = 0; intervals = record { site = site; from = from; to = to } ∷ []; actions = actions }
+part q from to actions =
+    record { article = 0; intervals = record { site = q; from = from; to = to } ∷ []; actions = actions }
 
 -- a message of site 1 with that section alone
 abbrev pub telling : ℕ → ℕ → ℕ → List Action → Message
-telling site from to actions = record { group = 1; kind = 1; sender = 1; sections = part site from to actions ∷ [] }
+telling q from to actions = record { group = 1; kind = 1; sender = 1; sections = part q from to actions ∷ [] }
 
 -- the two actions that site 1 has committed
 abbrev pub of_site_1 : List Action
@@ -70,8 +70,8 @@ pub data Row : Type 0 where
   worked : (ℤ → ℕ → ℤ → ℤ) → ℤ → List (ℕ × ℤ) → ℤ → Row
   -- an action, and one that it precedes
   ordered : Action → Action → Row
-  -- an interval of a message of site 1's without actions, by its site, from and to; the site's own entry for
-  -- that site; and the refusal that the message meets there, where it meets one
+  -- an interval of site q, from and to, in a message of site 1 without actions; up to when `site` has q's
+  -- actions; and the refusal that the message meets there, where it meets one
   met : ℕ → ℕ → ℕ → ℕ → Option Refusal → Row
 
 -- what the definitions compute is what the row expects

@@ -97,13 +97,13 @@ fn order_holds() -> bool
     first.precedes(&second) && second.precedes(&third)
 }
 
-// Do the examples of figures and of the order come out as expected, as they are written here? They do; and
-// each row of the table holds of the definitions, those of taking a message among them, at a table that is
-// sound. Of the rows that says nothing of this code: that the code computes what the definitions do for all
-// arguments is in the contracts of `Kind::step`, `Action::precedes` and `Table::take`.
+// Do the examples of figures and of the order come out as expected? They do, as they are written here. Each
+// row of `examples` holds of the definitions too, and the rows on taking a message are at a sound table
+// (`site`). The rows say nothing of the code: that it computes what the definitions do, for all arguments, is in
+// the contracts of `Kind::step`, `Action::precedes` and `Table::take`.
 pub fn examples_hold() -> bool
     ensures code { result ≡ true }
-    ensures table { AllByRecursion Holds examples }
+    ensures rows { AllByRecursion Holds examples }
     ensures sound { Sound on_hand site }
 {
     on_hand_holds() && set_prices_hold() && raised_prices_hold() && flags_hold() && order_holds()

@@ -1,6 +1,6 @@
-// What a proof cannot show: that there is memory for a rack, a strip and a desk, since a body that always
-// wants for memory would be proved. And two of the worked examples as the library answers them, with
-// number, place and layer.
+// What a proof cannot show: that there is memory for a rack and for a desk, since a body that always wanted
+// for memory would be proved. And two of the worked examples as the library answers them, with number, place
+// and layer.
 use action::{Layer, Refusal, Setup};
 use history::{History, PLACE_BYTES, Rack, Strip};
 use kind::OnHand;

@@ -1,4 +1,4 @@
--- The rules for each record of a message, after those before it. Assumes nothing.
+-- What the reader keeps of the records that it has read, and how one more record moves it on. Assumes nothing.
 use Rattle.std.specs.Prelude.{◌≡◌, ℕ, ◌+◌, ◌-◌, Bool, cond, ◌&&◌, List, replicate, Ok, Err, Result, pos, ◌==◌, nat_le, nat_lt, slice_index_or, slice_set}
 use Rattle.action.specs.declared.orders.Action.{Action}
 use Rattle.action.specs.declared.setups.Setup.{Setup}
@@ -35,7 +35,7 @@ due_after intervals actions sections = cond (nat_lt 0 intervals) Due.Interval (c
 
 -- HEADER
 
--- the header names the table's group and kind
+-- does the header name the group and the kind?
 abbrev pub named : Meaning → Setup → Header → Bool
 named kind setup h = h.group == setup.group && h.kind == kind.number
 

@@ -26,7 +26,7 @@ pub record GivesOnly (kind : Meaning) (setup : Setup) (bytes : List ℕ) (p : Pr
   pub only : (other : Result (Option Found) ReaderFault) (r : Progress) (place : ℕ) → Next kind setup p at bytes other r place → (other ≡ answer) × (r ≡ q) × (place ≡ to)
 
 -- calls of `next` one after another give just these records, and then the end, at which the reader stays
-abbrev pub Yields : Meaning → Setup → List ℕ → Progress → ℕ → List Found → Type 0
-Yields kind setup bytes p at [] = GivesOnly kind setup bytes p at (Ok None) p at
-Yields kind setup bytes p at (f ∷ fs) =
-    (q : Progress) × (to : ℕ) × GivesOnly kind setup bytes p at (Ok (Some f)) q to × Yields kind setup bytes q to fs
+abbrev pub ReadsJust : Meaning → Setup → List ℕ → Progress → ℕ → List Found → Type 0
+ReadsJust kind setup bytes p at [] = GivesOnly kind setup bytes p at (Ok None) p at
+ReadsJust kind setup bytes p at (f ∷ fs) =
+    (q : Progress) × (to : ℕ) × GivesOnly kind setup bytes p at (Ok (Some f)) q to × ReadsJust kind setup bytes q to fs

@@ -66,7 +66,7 @@ due_next before =
     (cond (nat_lt (length (actions_so_far before)) (present_head before).actions) Due.Action
     (cond (nat_lt (length (heads before)) (announced before)) Due.Section Due.End))
 
--- is the record of the kind due? None is where the end is due
+-- is the record of the kind due? Where the end is due, no record is
 abbrev pub is_due : Due → Record → Bool
 is_due Due.Header (RecordKinds.Header _) = true
 is_due Due.Section (RecordKinds.Section _) = true
@@ -81,14 +81,14 @@ pub record LawfulHeader (setup : Setup) (h : Header) : Type 0 where
   pub few : h.sections ≤ 16
   pub sent : h.sender < setup.sites
 
--- its article is above those of the sections before
+-- its article is one of the group's and above those of all sections before, and it has 1 to n intervals
 pub record NextHead (setup : Setup) (before : List Record) (s : SectionHead) : Type 0 where
   pub listed : s.article < setup.articles
   pub rising : AllByRecursion (λ t. t.article < s.article) (heads before)
   pub some : 1 ≤ s.intervals
   pub few : s.intervals ≤ setup.sites
 
--- its site is above those of the section's intervals before
+-- it is lawful by itself, and its site is above those of the section's intervals before
 pub record NextInterval (setup : Setup) (before : List Record) (i : Interval) : Type 0 where
   pub lawful : LawfulInterval setup i
   pub rising : AllByRecursion (λ j. j.site < i.site) (intervals_so_far before)
@@ -115,7 +115,7 @@ Keeps kind setup before (RecordKinds.Action x) = NextAction kind before x
 abbrev pub Names : Meaning → Setup → Header → Type 0
 Names kind setup h = (h.group ≡ setup.group) × (h.kind ≡ kind.number)
 
--- and so does the record, if it is a header
+-- the record is no header, or names the group and the kind
 abbrev pub Ours : Meaning → Setup → Record → Type 0
 Ours kind setup (RecordKinds.Header h) = Names kind setup h
 Ours kind setup _ = Unit {0}
@@ -126,7 +126,7 @@ pub record Follows (kind : Meaning) (setup : Setup) (before : List Record) (r : 
   pub ours : Ours kind setup r
   pub keeps : Keeps kind setup before r
 
--- each of the records follows, the first of them after these
+-- each of the second records follows the first ones and those of the second before it
 abbrev pub InTurn : Meaning → Setup → List Record → List Record → Type 0
 InTurn kind setup before [] = Unit {0}
 InTurn kind setup before (r ∷ rs) = Follows kind setup before r × InTurn kind setup (before ++ (r ∷ [])) rs

@@ -3,7 +3,7 @@ ghost use Rattle.kind.specs.Meaning.{Meaning};
 ghost use Rattle.message.specs.Format.{Message, records};
 ghost use Rattle.message.specs.Found.{placed};
 ghost use Rattle.message.specs.Progress.{start};
-ghost use Rattle.message.specs.ReadBack.{IsMessageFor, Yields};
+ghost use Rattle.message.specs.ReadBack.{IsMessageFor, ReadsJust};
 ghost use Rattle.message.specs.Reading.{Next};
 
 use crate::cursor::Reader;
@@ -21,7 +21,7 @@ impl<'a> Reader<'a> {
         ensures at { result.at ≡ 0 }
         ensures progress { result.progress ≡ start }
         ensures reads_back { (kind : Meaning) (m : Message) → IsMessageFor kind setup bytes.now m
-            → Yields kind result.setup result.bytes.now result.progress result.at (placed 0 (records m)) }
+            → ReadsJust kind setup bytes.now start 0 (placed 0 (records m)) }
     {
         Reader {
             setup,

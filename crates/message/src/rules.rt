@@ -38,7 +38,7 @@ impl Header {
     }
 }
 
-// The rules for the next record, after those before it. The set-up is lent to each rule. As a field of
+// The rules for the next record, by what is kept of those before it. The set-up is lent to each rule. As a field of
 // `Progress` it would be one more thing that each contract has to say the same of.
 impl Progress {
     fn is_lawful_section(&self, setup: &Setup, head: &SectionHead) -> bool

@@ -1,4 +1,4 @@
-// Plays random runs by seed on real tables, and holds them to three laws of whole runs by a book that it
+// Plays random runs by seed on real tables, and holds them to four laws of whole runs by a book that it
 // keeps itself. The laws are proved of every run; this program is a test beside the proofs, of the compiled
 // tables. Its own functions are proved only to be safe and to end.
 //

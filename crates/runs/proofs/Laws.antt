@@ -4,7 +4,7 @@ use Rattle.kind.specs.Meaning.{Meaning}
 use Rattle.table.specs.View.{View}
 use Rattle.runs.specs.Events.{Call, Event, at}
 use Rattle.runs.specs.Events.Call.{Opens, Writes, Commits, Abandons, Offers, Takes, Archives}
-use Rattle.runs.specs.Laws.{Believed, Counted, Entered, Level, NoMore, Repeated, Truthful}
+use Rattle.runs.specs.Laws.{Believed, Counted, Entered, Level, NoneAhead, Repeated, Truthful}
 use Rattle.runs.specs.Runs.{Group, Ran, Turn}
 use Rattle.runs.proofs.Archiving.{archive_stands}
 use Rattle.runs.proofs.Beginning.{start_stands}
@@ -15,7 +15,7 @@ use Rattle.runs.proofs.Repeating.{repeats}
 use Rattle.runs.proofs.Standing.{Standing}
 use Rattle.runs.proofs.Taking.{take_stands}
 use Rattle.runs.proofs.Transactions.{commit_stands}
-use Rattle.runs.proofs.Truth.{believes_no_more, enters_messages, has_no_more, tells_the_truth}
+use Rattle.runs.proofs.Truth.{believes_no_more, enters_messages, no_site_ahead, tells_the_truth}
 
 module _ (kind : Meaning) (small : kind.number ≤ 255) (start_fits : SFits w64 kind.starts) (step_fits : (f : ℤ) (o : ℕ) (a : ℤ) → SFits w64 f → SFits w64 (kind.steps f o a)) (commute : (f : ℤ) (o : ℕ) (a : ℤ) (p : ℕ) (b : ℤ) → SFits w64 f → kind.commutes ≡ true → kind.knows o a ≡ true → kind.knows p b ≡ true → kind.steps (kind.steps f o a) p b ≡ kind.steps (kind.steps f p b) o a) where
   -- one event more, whatever its call
@@ -44,8 +44,8 @@ module _ (kind : Meaning) (small : kind.number ≤ 255) (start_fits : SFits w64 
   pub every_believed : Believed kind
   every_believed group events views ran = believes_no_more kind group events views (run_stands group events views ran)
 
-  pub every_no_more : NoMore kind
-  every_no_more group events views ran = has_no_more kind group events views (run_stands group events views ran)
+  pub every_none_ahead : NoneAhead kind
+  every_none_ahead group events views ran = no_site_ahead kind group events views (run_stands group events views ran)
 
   pub every_truthful : Truthful kind
   every_truthful group events views ran = tells_the_truth kind group events views (run_stands group events views ran)

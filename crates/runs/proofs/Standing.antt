@@ -11,7 +11,7 @@ use Rattle.table.specs.View.{View, entry, row}
 use Rattle.runs.specs.Books.{Book, book, greatest}
 use Rattle.runs.specs.Events.{Call, Event, wrote}
 use Rattle.runs.specs.Events.Call.{Opens, Writes, Commits, Abandons, Offers, Takes, Archives}
-use Rattle.runs.specs.Laws.{Credits, Sent, Told}
+use Rattle.runs.specs.Laws.{Credits, IsMessageOf, TrueOrNothing}
 use Rattle.runs.specs.Runs.{Group}
 
 -- THE BOOK
@@ -68,7 +68,7 @@ Absorbed kind group s v (Writes t article operation amount r) = Unit {0}
 Absorbed kind group s v (Commits t buffer r after) = Unit {0}
 Absorbed kind group s v (Abandons t r) = Unit {0}
 Absorbed kind group s v (Offers peer article buffer r after) = Unit {0}
-Absorbed kind group s v (Takes bytes (Ok n)) = (m : Message) × Sent kind group bytes m × Credits v s m × Credits v m.sender m
+Absorbed kind group s v (Takes bytes (Ok n)) = (m : Message) × IsMessageOf kind group bytes m × Credits v s m × Credits v m.sender m
 Absorbed kind group s v (Takes bytes (Err e)) = Unit {0}
 Absorbed kind group s v (Archives article r) = Unit {0}
 
@@ -77,5 +77,5 @@ Absorbed kind group s v (Archives article r) = Unit {0}
 pub record Standing (kind : Meaning) (group : Group) (events : List Event) (views : ℕ → View) : Type 0 where
   pub sites : (s : ℕ) → s < group.sites → Site kind group (book group events) s (views s)
   pub account : Account group (book group events)
-  pub told : AllByRecursion (λ event. Told kind group (book group events) views (wrote event.call)) events
+  pub told : AllByRecursion (λ event. TrueOrNothing kind group (book group events) views (wrote event.call)) events
   pub absorbed : AllByRecursion (λ event. (event.site < group.sites) × Absorbed kind group event.site (views event.site) event.call) events

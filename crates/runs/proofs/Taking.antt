@@ -33,7 +33,7 @@ use Rattle.table.proofs.Taken.{begun_within, news_above, take_keeps, taken_ge, t
 use Rattle.runs.specs.Books.{Book, book, greatest, reaching, taken_times}
 use Rattle.runs.specs.Events.{Event, at, wrote}
 use Rattle.runs.specs.Events.Call.{Takes}
-use Rattle.runs.specs.Laws.{CarriesAll, Credits, IsTruthful, Sent, Told}
+use Rattle.runs.specs.Laws.{CarriesAll, Credits, IsMessageOf, IsTruthful, TrueOrNothing}
 use Rattle.runs.specs.Runs.{Group, Turn}
 use Rattle.runs.proofs.Greatest.{greatest_ge, greatest_le}
 use Rattle.runs.proofs.Growing.{Grown, stands_after, still_everywhere}
@@ -261,16 +261,16 @@ module _ (kind : Meaning) (step_fits : (f : ℤ) (o : ℕ) (a : ℤ) → SFits w
     told_book = book group before
 
     -- bytes that an event wrote and that are a lawful message are a true one
-    true_message : (of_group : s < group.sites) (bytes : List ℕ) → Has (map (λ event. wrote event.call) before) bytes → (m : Message) → LawfulMessage kind (old s).setup m → bytes ≡ format m → Sent kind group bytes m × IsTruthful told_book old m
+    true_message : (of_group : s < group.sites) (bytes : List ℕ) → Has (map (λ event. wrote event.call) before) bytes → (m : Message) → LawfulMessage kind (old s).setup m → bytes ≡ format m → IsMessageOf kind group bytes m × IsTruthful told_book old m
     true_message of_group bytes honest m lawful is =
-        by_told (all-has (Told kind group told_book old) (map (λ event. wrote event.call) before) bytes (All-map (Told kind group told_book old) (λ (event : Event). wrote event.call) before st.told) honest)
+        by_told (all-has (TrueOrNothing kind group told_book old) (map (λ event. wrote event.call) before) bytes (All-map (TrueOrNothing kind group told_book old) (λ (event : Event). wrote event.call) before st.told) honest)
       where
-        by_told : Told kind group told_book old bytes → Sent kind group bytes m × IsTruthful told_book old m
+        by_told : TrueOrNothing kind group told_book old bytes → IsMessageOf kind group bytes m × IsTruthful told_book old m
         by_told (inl none) = absurd (let e = sym none ∙ is in omega (arith, ap length e))
         by_told (inr (n, sent, truthful)) =
             let there : LawfulMessage kind (old s).setup n = subst (λ (u : Setup). LawfulMessage kind u n) (sym (st.sites s of_group).setup_is) (sent.lawful s of_group) in
             let same : n ≡ m = messages_unique kind (old s).setup small bytes n m there lawful sent.is is in
-            (subst (Sent kind group bytes) same sent, subst (IsTruthful told_book old) same truthful)
+            (subst (IsMessageOf kind group bytes) same sent, subst (IsTruthful told_book old) same truthful)
 
     pub take_stands : (bytes : List ℕ) (r : Result ℕ TableFault) → Turn kind group before (at s (Takes bytes r)) old views → Standing kind group (at s (Takes bytes r) ∷ before) views
     take_stands bytes (Err e) turn = stands_still kind group before s old views st (Takes bytes (Err e)) turn refl turn.does.1 (inl refl) tt

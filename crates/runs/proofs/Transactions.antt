@@ -20,7 +20,7 @@ use Rattle.table.proofs.Soundness.{committed_entry_ge, passed}
 use Rattle.runs.specs.Books.{Book, book}
 use Rattle.runs.specs.Events.{Event, at}
 use Rattle.runs.specs.Events.Call.{Commits}
-use Rattle.runs.specs.Laws.{CarriesAll, IsTruthful, Told}
+use Rattle.runs.specs.Laws.{CarriesAll, IsTruthful, TrueOrNothing}
 use Rattle.runs.specs.Runs.{Group, Turn}
 use Rattle.runs.proofs.Commits.{after, commit_grows, commit_reach_own, commit_site, old_own}
 use Rattle.runs.proofs.Growing.{stands_after}
@@ -76,14 +76,14 @@ module _ (kind : Meaning) (group : Group) (b : Book) (s : ℕ) (of_group : s < g
   }
 
   -- all of it, or nothing
-  commit_told : (buffer : List ℕ) → Told kind group then views (fitting (transaction_bytes kind v) buffer)
+  commit_told : (buffer : List ℕ) → TrueOrNothing kind group then views (fitting (transaction_bytes kind v) buffer)
   commit_told buffer = by_fit (leb (length (transaction_bytes kind v)) (length buffer))
     where
-      by_writes : (t : Bool) → ltb 0 (length v.pending) ≡ t → Told kind group then views (cond t (format m) [])
+      by_writes : (t : Bool) → ltb 0 (length v.pending) ≡ t → TrueOrNothing kind group then views (cond t (format m) [])
       by_writes true e = inr (m, record { is = refl; lawful = lawful_anywhere kind group b s of_group v site m (transaction_lawful kind v site.sound (ltb-true 0 (length v.pending) e)) }, transaction_true)
       by_writes false e = inl refl
 
-      by_fit : (t : Bool) → Told kind group then views (cond t (transaction_bytes kind v) [])
+      by_fit : (t : Bool) → TrueOrNothing kind group then views (cond t (transaction_bytes kind v) [])
       by_fit true = by_writes (ltb 0 (length v.pending)) refl
       by_fit false = inl refl
 
@@ -105,5 +105,5 @@ module _ (kind : Meaning) (group : Group) (before : List Event) (s : ℕ) (old v
       (commit_grows kind group b s of_group v site l)
       site_after
       (λ a z q. omega (arith, committed_entry_ge kind v site.sound free a z q, ap (λ (u : View). entry u a z q) is))
-      (subst (Told kind group (after kind group b s of_group v site l) views) (sym bytes) (commit_told kind group b s of_group v site l views site_after buffer))
+      (subst (TrueOrNothing kind group (after kind group b s of_group v site l) views) (sym bytes) (commit_told kind group b s of_group v site l views site_after buffer))
       tt

@@ -6,7 +6,7 @@ use Rattle.table.specs.View.{View}
 use Rattle.runs.specs.Books.{book}
 use Rattle.runs.specs.Events.{Event, at, wrote}
 use Rattle.runs.specs.Events.Call.{Takes}
-use Rattle.runs.specs.Laws.{BelievesNoMore, EntersMessages, HasNoMore, TellsTheTruth, Told}
+use Rattle.runs.specs.Laws.{BelievesNoMore, EntersMessages, NoSiteAhead, TellsTheTruth, TrueOrNothing}
 use Rattle.runs.specs.Runs.{Group}
 use Rattle.runs.proofs.Standing.{Absorbed, Standing}
 use Rattle.runs.proofs.Taking.{times_read}
@@ -15,11 +15,11 @@ module _ (kind : Meaning) (group : Group) (events : List Event) (views : ℕ →
   pub believes_no_more : BelievesNoMore group views
   believes_no_more s a z q sl al zl ql = omega (arith, (st.sites s sl).believed a z q al zl ql, (st.sites z zl).vector a q al ql)
 
-  pub has_no_more : HasNoMore group views
-  has_no_more s a q sl al ql = omega (arith, (st.sites s sl).vector a q al ql, st.account.no_more s a q sl al ql, (st.sites q ql).vector a q al ql)
+  pub no_site_ahead : NoSiteAhead group views
+  no_site_ahead s a q sl al ql = omega (arith, (st.sites s sl).vector a q al ql, st.account.no_more s a q sl al ql, (st.sites q ql).vector a q al ql)
 
   pub tells_the_truth : TellsTheTruth kind group events views
-  tells_the_truth event had = all-has (λ (event : Event). Told kind group (book group events) views (wrote event.call)) events event st.told had
+  tells_the_truth event had = all-has (λ (event : Event). TrueOrNothing kind group (book group events) views (wrote event.call)) events event st.told had
 
   pub enters_messages : kind.number ≤ 255 → EntersMessages kind group events
   enters_messages small s n bytes had =

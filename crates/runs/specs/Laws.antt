@@ -63,15 +63,15 @@ BelievesNoMore group views =
     entry (views s) a z q ≤ entry (views z) a z q
 
 -- no site has more of a site's actions than that site itself
-abbrev pub HasNoMore : Group → (ℕ → View) → Type 0
-HasNoMore group views =
+abbrev pub NoSiteAhead : Group → (ℕ → View) → Type 0
+NoSiteAhead group views =
     (s a q : ℕ) → s < group.sites → a < group.articles → q < group.sites →
     entry (views s) a s q ≤ entry (views q) a q q
 
 -- MESSAGES
 
--- the bytes are this message, which every table of the group may read
-pub record Sent (kind : Meaning) (group : Group) (bytes : List ℕ) (m : Message) : Type 0 where
+-- the bytes are this message, which every table of the group can read
+pub record IsMessageOf (kind : Meaning) (group : Group) (bytes : List ℕ) (m : Message) : Type 0 where
   pub is : bytes ≡ format m
   pub lawful : (s : ℕ) → s < group.sites → LawfulMessage kind (group.setup s) m
 
@@ -91,20 +91,20 @@ pub record IsTruthful (b : Book) (views : ℕ → View) (m : Message) : Type 0 w
   pub sender_has : Credits (views m.sender) m.sender m
 
 -- the bytes are nothing, or a message of the group that tells the truth
-abbrev pub Told : Meaning → Group → Book → (ℕ → View) → List ℕ → Type 0
-Told kind group b views bytes =
-    (bytes ≡ []) ⊎ ((m : Message) × Sent kind group bytes m × IsTruthful b views m)
+abbrev pub TrueOrNothing : Meaning → Group → Book → (ℕ → View) → List ℕ → Type 0
+TrueOrNothing kind group b views bytes =
+    (bytes ≡ []) ⊎ ((m : Message) × IsMessageOf kind group bytes m × IsTruthful b views m)
 
 -- whatever an event of the run wrote is true at the end of the run
 abbrev pub TellsTheTruth : Meaning → Group → List Event → (ℕ → View) → Type 0
 TellsTheTruth kind group events views =
-    (event : Event) → Has events event → Told kind group (book group events) views (wrote event.call)
+    (event : Event) → Has events event → TrueOrNothing kind group (book group events) views (wrote event.call)
 
 -- what a site took is a message of the group, and the book enters of it what the message's intervals say
 abbrev pub EntersMessages : Meaning → Group → List Event → Type 0
 EntersMessages kind group events =
     (s n : ℕ) (bytes : List ℕ) → Has events (record { site = s; call = Takes bytes (Ok n) }) →
-    (m : Message) × Sent kind group bytes m × ((a q : ℕ) → taken_times bytes a q ≡ highest a q (told_intervals m))
+    (m : Message) × IsMessageOf kind group bytes m × ((a q : ℕ) → taken_times bytes a q ≡ highest a q (told_intervals m))
 
 -- EVERY RUN
 
@@ -127,8 +127,8 @@ Repeated kind = EveryRun kind (RepeatsChangeNothing kind)
 abbrev pub Believed : Meaning → Type 0
 Believed kind = EveryRun kind (λ group events views. BelievesNoMore group views)
 
-abbrev pub NoMore : Meaning → Type 0
-NoMore kind = EveryRun kind (λ group events views. HasNoMore group views)
+abbrev pub NoneAhead : Meaning → Type 0
+NoneAhead kind = EveryRun kind (λ group events views. NoSiteAhead group views)
 
 abbrev pub Truthful : Meaning → Type 0
 Truthful kind = EveryRun kind (TellsTheTruth kind)

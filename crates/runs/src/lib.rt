@@ -2,7 +2,7 @@
 // sites, where messages are taken late, often, in any order or never.
 #![tactic(auto)]
 
-ghost use Rattle.runs.specs.Laws.{Believed, Counted, Entered, Level, NoMore, Repeated, Truthful};
+ghost use Rattle.runs.specs.Laws.{Believed, Counted, Entered, Level, NoneAhead, Repeated, Truthful};
 
 use kind::Kind;
 
@@ -18,7 +18,7 @@ pub fn each_movement_counted_once<K: Kind>()
     ensures level { Level K.means }
     ensures repeated { Repeated K.means }
     ensures believed { Believed K.means }
-    ensures no_more { NoMore K.means }
+    ensures none_ahead { NoneAhead K.means }
     ensures truthful { Truthful K.means }
     ensures entered { Entered K.means }
 {}

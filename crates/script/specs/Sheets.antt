@@ -38,6 +38,6 @@ abbrev pub line_letter : Option Command → ℕ
 line_letter None = 63
 line_letter (Some c) = letter c
 
--- these bytes are printed for the line, and P holds of what it answers
+-- these bytes are what is printed for an answer to the line of which P holds
 abbrev pub Printed : List ℕ → List ℕ → (Reply → Type 0) → Type 0
 Printed line bytes P = (a : Reply) × P a × (bytes ≡ printed_line (line_letter (command line)) a)

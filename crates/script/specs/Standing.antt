@@ -61,9 +61,8 @@ open_and_write site t article amount r = at site (Writes t article 1 amount r) �
 
 -- after this run, which led to this desk, a command makes these calls, the latest first, and answers this
 pub data Makes (group : Group) (run : List Event) (d : DeskView) : Command → Reply → List Event → Type 0 where
-  -- M: open, write and commit; the open is granted, and where the write is refused, by 4 or 8, or the
-  -- commit, by 16 at the 64 places, the transaction is abandoned. A commit is of one action, and its message
-  -- of 37 bytes
+  -- M: open, write and commit. The open is granted. Where the write is refused, by 4 or 8, or the commit, by 16
+  -- at the 64 places, the transaction is abandoned. A commit is of one action, and its message of 37 bytes
   moves :
       (site article slot : ℕ) (amount : ℤ) (t : Ticket) (time : ℕ) (after : List ℕ) (n : ℕ × ℕ) →
       n ≡ (1, 37) →

@@ -38,7 +38,7 @@ fn amount(sign: u8, thousands: u16, ones: u16) -> Option<i32>
     }
 }
 
-// Each of the five reads what stands after its letter.
+// After `M`: site, article, sign, six digits, slot.
 fn parse_move(body: &[u8]) -> Option<Command>
     ensures form { result ≡ move_of body.now }
     ensures placed { IfSome result Placed }
@@ -58,6 +58,7 @@ fn parse_move(body: &[u8]) -> Option<Command>
     })
 }
 
+// After `O`: site, peer, article, slot.
 fn parse_offer(body: &[u8]) -> Option<Command>
     ensures form { result ≡ offer_of body.now }
     ensures placed { IfSome result Placed }
@@ -73,6 +74,7 @@ fn parse_offer(body: &[u8]) -> Option<Command>
     })
 }
 
+// After `T`: site, slot.
 fn parse_take(body: &[u8]) -> Option<Command>
     ensures form { result ≡ take_of body.now }
     ensures placed { IfSome result Placed }
@@ -86,6 +88,7 @@ fn parse_take(body: &[u8]) -> Option<Command>
     })
 }
 
+// After `F`: site, article.
 fn parse_figure(body: &[u8]) -> Option<Command>
     ensures form { result ≡ figure_of body.now }
     ensures placed { IfSome result Placed }
@@ -99,6 +102,7 @@ fn parse_figure(body: &[u8]) -> Option<Command>
     })
 }
 
+// After `P`: site, peer, article.
 fn parse_open_item(body: &[u8]) -> Option<Command>
     ensures form { result ≡ open_item_of body.now }
     ensures placed { IfSome result Placed }

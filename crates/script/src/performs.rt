@@ -75,8 +75,7 @@ impl Desk {
         print(letter, answer)
     }
 
-    // Does what `run` does, and answers what the line answers, unprinted: of a refusal its number, place
-    // and layer.
+    // Does what `run` does and prints nothing: the answer, or the fault, by number, place and layer.
     pub fn perform(&mut self, index: usize, line: &[u8]) -> Result<Answer, LineFault>
         ensures does { Performs self.old index line.now (reply_of result) self.new }
         ensures stands { LineStands self.old index line.now (reply_of result) self.new }
@@ -84,7 +83,7 @@ impl Desk {
         self.perform_command(index, parse(line))
     }
 
-    // What the line of this number does, which writes the command or has no known form.
+    // Does the command that the line of this number writes, or refuses the line where it writes none.
     fn perform_command(
         &mut self,
         index: usize,
