@@ -178,8 +178,8 @@ module _ (kind : Meaning) (group : Group) (s : ℕ) (of_group : s < group.sites)
       sender_has = credits_still kind group s (old m.sender) (views m.sender) (keeps m.sender sender_lt) m.sender m t.sender_has;
     }
 
-  pub still_told : (old views : ℕ → View) → ((z : ℕ) → z < group.sites → Site kind group b z (old z)) → ((z : ℕ) → z < group.sites → (a y q : ℕ) → entry (old z) a y q ≤ entry (views z) a y q) → (bytes : List ℕ) → TrueOrNothing kind group b old bytes → TrueOrNothing kind group after views bytes
-  still_told old views sites keeps bytes = ⊎_elim (λ none. inl none) (λ h. inr (h.0, h.1, still_true old views sites keeps bytes h.0 h.1 h.2))
+  pub still_told : (old views : ℕ → View) → ((z : ℕ) → z < group.sites → Site kind group b z (old z)) → ((z : ℕ) → z < group.sites → (a y q : ℕ) → entry (old z) a y q ≤ entry (views z) a y q) → (from : ℕ) (bytes : List ℕ) → TrueOrNothing kind group b old from bytes → TrueOrNothing kind group after views from bytes
+  still_told old views sites keeps from bytes = ⊎_elim (λ none. inl none) (λ h. inr (h.0, h.1, h.2, still_true old views sites keeps bytes h.0 h.1 h.3))
 
 -- ALL SITES
 
@@ -188,7 +188,7 @@ module _ (kind : Meaning) (group : Group) (before : List Event) (event : Event) 
   s = event.site
 
   -- the event's site is to be shown to stand, and no entry of it to be lowered
-  pub stands_after : Grown group s (book group before) (book group (event ∷ before)) → Site kind group (book group (event ∷ before)) s (views s) → ((a z q : ℕ) → entry (old s) a z q ≤ entry (views s) a z q) → TrueOrNothing kind group (book group (event ∷ before)) views (wrote event.call) → Absorbed kind group s (views s) event.call → Standing kind group (event ∷ before) views
+  pub stands_after : Grown group s (book group before) (book group (event ∷ before)) → Site kind group (book group (event ∷ before)) s (views s) → ((a z q : ℕ) → entry (old s) a z q ≤ entry (views s) a z q) → TrueOrNothing kind group (book group (event ∷ before)) views s (wrote event.call) → Absorbed kind group s (views s) event.call → Standing kind group (event ∷ before) views
   stands_after g site kept told absorbed = record {
     sites = λ z zl.
         ⊎_elim
@@ -196,7 +196,7 @@ module _ (kind : Meaning) (group : Group) (before : List Event) (event : Event) 
         (λ ne. subst (Site kind group after z) (sym (turn.others z zl ne)) (other_site kind group s of_group b after g st.account z zl ne (old z) (st.sites z zl)))
         (cases_eq z s);
     account = account_after kind group s of_group b after g st.account;
-    told = (told, All-weaker (λ (l : Event). TrueOrNothing kind group b old (wrote l.call)) (λ (l : Event). TrueOrNothing kind group after views (wrote l.call)) (λ l. still_told kind group s of_group b after g st.account old views st.sites keeps (wrote l.call)) before st.told);
+    told = (told, All-weaker (λ (l : Event). TrueOrNothing kind group b old l.site (wrote l.call)) (λ (l : Event). TrueOrNothing kind group after views l.site (wrote l.call)) (λ l. still_told kind group s of_group b after g st.account old views st.sites keeps l.site (wrote l.call)) before st.told);
     absorbed = ((of_group, absorbed), All-weaker _ (λ (l : Event). (l.site < group.sites) × Absorbed kind group l.site (views l.site) l.call) (λ l h. (h.0, absorbed_still kind group l.site (old l.site) (views l.site) (keeps l.site h.0) l.call h.1)) before st.absorbed);
   }
     where

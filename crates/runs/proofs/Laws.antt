@@ -4,7 +4,7 @@ use Rattle.kind.specs.Meaning.{Meaning}
 use Rattle.table.specs.View.{View}
 use Rattle.runs.specs.Events.{Call, Event, at}
 use Rattle.runs.specs.Events.Call.{Opens, Writes, Commits, Abandons, Offers, Takes, Archives}
-use Rattle.runs.specs.Laws.{Believed, Counted, Entered, Level, NoneAhead, Repeated, Truthful}
+use Rattle.runs.specs.Laws.{Believed, Counted, Entered, Learned, Level, NoneAhead, Repeated, Truthful}
 use Rattle.runs.specs.Runs.{Group, Ran, Turn}
 use Rattle.runs.proofs.Archiving.{archive_stands}
 use Rattle.runs.proofs.Beginning.{start_stands}
@@ -15,7 +15,7 @@ use Rattle.runs.proofs.Repeating.{repeats}
 use Rattle.runs.proofs.Standing.{Standing}
 use Rattle.runs.proofs.Taking.{take_stands}
 use Rattle.runs.proofs.Transactions.{commit_stands}
-use Rattle.runs.proofs.Truth.{believes_no_more, enters_messages, no_site_ahead, tells_the_truth}
+use Rattle.runs.proofs.Truth.{believes_no_more, enters_messages, learns_from_messages, no_site_ahead, tells_the_truth}
 
 module _ (kind : Meaning) (small : kind.number ≤ 255) (start_fits : SFits w64 kind.starts) (step_fits : (f : ℤ) (o : ℕ) (a : ℤ) → SFits w64 f → SFits w64 (kind.steps f o a)) (commute : (f : ℤ) (o : ℕ) (a : ℤ) (p : ℕ) (b : ℤ) → SFits w64 f → kind.commutes ≡ true → kind.knows o a ≡ true → kind.knows p b ≡ true → kind.steps (kind.steps f o a) p b ≡ kind.steps (kind.steps f p b) o a) where
   -- one event more, whatever its call
@@ -49,6 +49,9 @@ module _ (kind : Meaning) (small : kind.number ≤ 255) (start_fits : SFits w64 
 
   pub every_truthful : Truthful kind
   every_truthful group events views ran = tells_the_truth kind group events views (run_stands group events views ran)
+
+  pub every_learned : Learned kind
+  every_learned group events views ran = learns_from_messages kind group events views (run_stands group events views ran)
 
   pub every_entered : Entered kind
   every_entered group events views ran = enters_messages kind group events views (run_stands group events views ran) small

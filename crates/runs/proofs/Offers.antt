@@ -81,6 +81,7 @@ module _ (kind : Meaning) (group : Group) (before : List Event) (s : ℕ) (old v
       (inr (
         offer_message kind v peer article,
         record { is = bytes; lawful = lawful_anywhere kind group b s of_group v site (offer_message kind v peer article) (offer_lawful kind v site.sound peer article al) },
+        own_is kind group b s of_group v site,
         offer_true kind group b s of_group v site peer article (omega (arith, pl, sites_are kind group b s of_group v site)) (omega (arith, al, articles_are kind group b s of_group v site)) st.account views turn.does.1,
       ))
       tt

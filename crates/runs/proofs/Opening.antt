@@ -63,14 +63,14 @@ module _ (kind : Meaning) (group : Group) (before : List Event) (s : ℕ) (old v
 
   -- THE BOOK AND THE TABLES STAY
 
-  pub stands_still : (call : Call) → Turn kind group before (at s call) old views → book group (at s call ∷ before) ≡ b → views s ≡ old s → TrueOrNothing kind group b views (wrote call) → Absorbed kind group s (views s) call → Standing kind group (at s call ∷ before) views
+  pub stands_still : (call : Call) → Turn kind group before (at s call) old views → book group (at s call ∷ before) ≡ b → views s ≡ old s → TrueOrNothing kind group b views s (wrote call) → Absorbed kind group s (views s) call → Standing kind group (at s call ∷ before) views
   stands_still call turn same_book same_view told absorbed =
       let of_group = turn.of_group in
       stands_after kind group before (at s call) old views turn st
       (subst (Grown group s b) (sym same_book) (grown_pending kind group s of_group b b.pending (λ z ne. refl) st.account))
       (subst (λ (after : Book). Site kind group after s (views s)) (sym same_book) (subst (Site kind group b s) (sym same_view) (st.sites s of_group)))
       (λ a z q. omega (arith, ap (λ (v : View). entry v a z q) same_view))
-      (subst (λ (after : Book). TrueOrNothing kind group after views (wrote call)) (sym same_book) told)
+      (subst (λ (after : Book). TrueOrNothing kind group after views s (wrote call)) (sym same_book) told)
       absorbed
 
   -- THE TRANSACTION CHANGES

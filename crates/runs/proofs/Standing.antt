@@ -77,5 +77,5 @@ Absorbed kind group s v (Archives article r) = Unit {0}
 pub record Standing (kind : Meaning) (group : Group) (events : List Event) (views : ℕ → View) : Type 0 where
   pub sites : (s : ℕ) → s < group.sites → Site kind group (book group events) s (views s)
   pub account : Account group (book group events)
-  pub told : AllByRecursion (λ event. TrueOrNothing kind group (book group events) views (wrote event.call)) events
+  pub told : AllByRecursion (λ event. TrueOrNothing kind group (book group events) views event.site (wrote event.call)) events
   pub absorbed : AllByRecursion (λ event. (event.site < group.sites) × Absorbed kind group event.site (views event.site) event.call) events

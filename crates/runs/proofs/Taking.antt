@@ -263,11 +263,15 @@ module _ (kind : Meaning) (step_fits : (f : ℤ) (o : ℕ) (a : ℤ) → SFits w
     -- bytes that an event wrote and that are a lawful message are a true one
     true_message : (of_group : s < group.sites) (bytes : List ℕ) → Has (map (λ event. wrote event.call) before) bytes → (m : Message) → LawfulMessage kind (old s).setup m → bytes ≡ format m → IsMessageOf kind group bytes m × IsTruthful told_book old m
     true_message of_group bytes honest m lawful is =
-        by_told (all-has (TrueOrNothing kind group told_book old) (map (λ event. wrote event.call) before) bytes (All-map (TrueOrNothing kind group told_book old) (λ (event : Event). wrote event.call) before st.told) honest)
+        by_told (all-has Somewhere (map (λ event. wrote event.call) before) bytes (All-map Somewhere (λ (event : Event). wrote event.call) before (All-weaker (λ (event : Event). TrueOrNothing kind group told_book old event.site (wrote event.call)) (λ (event : Event). Somewhere (wrote event.call)) (λ event told. (event.site, told)) before st.told)) honest)
       where
-        by_told : TrueOrNothing kind group told_book old bytes → IsMessageOf kind group bytes m × IsTruthful told_book old m
-        by_told (inl none) = absurd (let e = sym none ∙ is in omega (arith, ap length e))
-        by_told (inr (n, sent, truthful)) =
+        -- written at some site
+        Somewhere : List ℕ → Type 0
+        Somewhere written = (from : ℕ) × TrueOrNothing kind group told_book old from written
+
+        by_told : Somewhere bytes → IsMessageOf kind group bytes m × IsTruthful told_book old m
+        by_told (from, inl none) = absurd (let e = sym none ∙ is in omega (arith, ap length e))
+        by_told (from, inr (n, sent, own, truthful)) =
             let there : LawfulMessage kind (old s).setup n = subst (λ (u : Setup). LawfulMessage kind u n) (sym (st.sites s of_group).setup_is) (sent.lawful s of_group) in
             let same : n ≡ m = messages_unique kind (old s).setup small bytes n m there lawful sent.is is in
             (subst (IsMessageOf kind group bytes) same sent, subst (IsTruthful told_book old) same truthful)

@@ -76,14 +76,14 @@ module _ (kind : Meaning) (group : Group) (b : Book) (s : ℕ) (of_group : s < g
   }
 
   -- all of it, or nothing
-  commit_told : (buffer : List ℕ) → TrueOrNothing kind group then views (fitting (transaction_bytes kind v) buffer)
+  commit_told : (buffer : List ℕ) → TrueOrNothing kind group then views s (fitting (transaction_bytes kind v) buffer)
   commit_told buffer = by_fit (leb (length (transaction_bytes kind v)) (length buffer))
     where
-      by_writes : (t : Bool) → ltb 0 (length v.pending) ≡ t → TrueOrNothing kind group then views (cond t (format m) [])
-      by_writes true e = inr (m, record { is = refl; lawful = lawful_anywhere kind group b s of_group v site m (transaction_lawful kind v site.sound (ltb-true 0 (length v.pending) e)) }, transaction_true)
+      by_writes : (t : Bool) → ltb 0 (length v.pending) ≡ t → TrueOrNothing kind group then views s (cond t (format m) [])
+      by_writes true e = inr (m, record { is = refl; lawful = lawful_anywhere kind group b s of_group v site m (transaction_lawful kind v site.sound (ltb-true 0 (length v.pending) e)) }, own_s, transaction_true)
       by_writes false e = inl refl
 
-      by_fit : (t : Bool) → TrueOrNothing kind group then views (cond t (transaction_bytes kind v) [])
+      by_fit : (t : Bool) → TrueOrNothing kind group then views s (cond t (transaction_bytes kind v) [])
       by_fit true = by_writes (ltb 0 (length v.pending)) refl
       by_fit false = inl refl
 
@@ -105,5 +105,5 @@ module _ (kind : Meaning) (group : Group) (before : List Event) (s : ℕ) (old v
       (commit_grows kind group b s of_group v site l)
       site_after
       (λ a z q. omega (arith, committed_entry_ge kind v site.sound free a z q, ap (λ (u : View). entry u a z q) is))
-      (subst (TrueOrNothing kind group (after kind group b s of_group v site l) views) (sym bytes) (commit_told kind group b s of_group v site l views site_after buffer))
+      (subst (TrueOrNothing kind group (after kind group b s of_group v site l) views s) (sym bytes) (commit_told kind group b s of_group v site l views site_after buffer))
       tt

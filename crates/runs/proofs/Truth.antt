@@ -6,7 +6,7 @@ use Rattle.table.specs.View.{View}
 use Rattle.runs.specs.Books.{book}
 use Rattle.runs.specs.Events.{Event, at, wrote}
 use Rattle.runs.specs.Events.Call.{Takes}
-use Rattle.runs.specs.Laws.{BelievesNoMore, EntersMessages, NoSiteAhead, TellsTheTruth, TrueOrNothing}
+use Rattle.runs.specs.Laws.{BelievesNoMore, EntersMessages, LearnsFromMessages, NoSiteAhead, TellsTheTruth, TrueOrNothing}
 use Rattle.runs.specs.Runs.{Group}
 use Rattle.runs.proofs.Standing.{Absorbed, Standing}
 use Rattle.runs.proofs.Taking.{times_read}
@@ -19,7 +19,10 @@ module _ (kind : Meaning) (group : Group) (events : List Event) (views : ℕ →
   no_site_ahead s a q sl al ql = omega (arith, (st.sites s sl).vector a q al ql, st.account.no_more s a q sl al ql, (st.sites q ql).vector a q al ql)
 
   pub tells_the_truth : TellsTheTruth kind group events views
-  tells_the_truth event had = all-has (λ (event : Event). TrueOrNothing kind group (book group events) views (wrote event.call)) events event st.told had
+  tells_the_truth event had = all-has (λ (event : Event). TrueOrNothing kind group (book group events) views event.site (wrote event.call)) events event st.told had
+
+  pub learns_from_messages : LearnsFromMessages kind group events views
+  learns_from_messages s n bytes had = (all-has (λ (event : Event). (event.site < group.sites) × Absorbed kind group event.site (views event.site) event.call) events (at s (Takes bytes (Ok n))) st.absorbed had).1
 
   pub enters_messages : kind.number ≤ 255 → EntersMessages kind group events
   enters_messages small s n bytes had =

@@ -90,15 +90,22 @@ pub record IsTruthful (b : Book) (views : ℕ → View) (m : Message) : Type 0 w
   pub whole : AllByRecursion (CarriesAll b m) (told_intervals m)
   pub sender_has : Credits (views m.sender) m.sender m
 
--- the bytes are nothing, or a message of the group that tells the truth
-abbrev pub TrueOrNothing : Meaning → Group → Book → (ℕ → View) → List ℕ → Type 0
-TrueOrNothing kind group b views bytes =
-    (bytes ≡ []) ⊎ ((m : Message) × IsMessageOf kind group bytes m × IsTruthful b views m)
+-- the bytes are nothing, or a message of the group, with site s as its sender, that tells the truth
+abbrev pub TrueOrNothing : Meaning → Group → Book → (ℕ → View) → ℕ → List ℕ → Type 0
+TrueOrNothing kind group b views s bytes =
+    (bytes ≡ []) ⊎ ((m : Message) × IsMessageOf kind group bytes m × (m.sender ≡ s) × IsTruthful b views m)
 
--- whatever an event of the run wrote is true at the end of the run
+-- whatever an event of the run wrote at its site is true at the end of the run
 abbrev pub TellsTheTruth : Meaning → Group → List Event → (ℕ → View) → Type 0
 TellsTheTruth kind group events views =
-    (event : Event) → Has events event → TrueOrNothing kind group (book group events) views (wrote event.call)
+    (event : Event) → Has events event →
+    TrueOrNothing kind group (book group events) views event.site (wrote event.call)
+
+-- of what a site took, its table knows that the site and the sender have all that the message's intervals say
+abbrev pub LearnsFromMessages : Meaning → Group → List Event → (ℕ → View) → Type 0
+LearnsFromMessages kind group events views =
+    (s n : ℕ) (bytes : List ℕ) → Has events (record { site = s; call = Takes bytes (Ok n) }) →
+    (m : Message) × IsMessageOf kind group bytes m × Credits (views s) s m × Credits (views s) m.sender m
 
 -- what a site took is a message of the group, and the book enters of it what the message's intervals say
 abbrev pub EntersMessages : Meaning → Group → List Event → Type 0
@@ -132,6 +139,9 @@ NoneAhead kind = EveryRun kind (λ group events views. NoSiteAhead group views)
 
 abbrev pub Truthful : Meaning → Type 0
 Truthful kind = EveryRun kind (TellsTheTruth kind)
+
+abbrev pub Learned : Meaning → Type 0
+Learned kind = EveryRun kind (LearnsFromMessages kind)
 
 abbrev pub Entered : Meaning → Type 0
 Entered kind = EveryRun kind (λ group events views. EntersMessages kind group events)

@@ -1,4 +1,4 @@
-use Rattle.runs.proofs.Laws.{every_believed, every_counted, every_entered, every_level, every_none_ahead, every_repeated, every_truthful}
+use Rattle.runs.proofs.Laws.{every_believed, every_counted, every_entered, every_learned, every_level, every_none_ahead, every_repeated, every_truthful}
 use Rattle.runs.proofs.each_movement_counted_once.Goals as goal
 
 pub returns : goal.returns
@@ -12,5 +12,6 @@ returns g c =
       believed = every_believed kind met.number_fits met.start_fits met.step_fits met.commute;
       none_ahead = every_none_ahead kind met.number_fits met.start_fits met.step_fits met.commute;
       truthful = every_truthful kind met.number_fits met.start_fits met.step_fits met.commute;
+      learned = every_learned kind met.number_fits met.start_fits met.step_fits met.commute;
       entered = every_entered kind met.number_fits met.start_fits met.step_fits met.commute;
     }
