@@ -25,7 +25,6 @@ use Rattle.script.specs.Acts.{Outcome, Reply, by_refusal, figure_reply, open_ite
 use Rattle.script.specs.Desk.{Acts, ActsAt, DeskView, FreshDesk, FreshSite, Performs, PerformsCommand, SiteTurn, site_turn, table_at, with_slots, with_table}
 use Rattle.script.specs.Lines.{command}
 use Rattle.script.specs.Scripts.{PerformsAll, Scripted}
-use Rattle.script.specs.Sheets.{Printed}
 use Rattle.script.specs.Standing.{AfterRun, Kept, LineStands, Makes, MakesLine, NewStands, PlaysAll, ScriptStands, counted_figure}
 use Rattle.script.specs.Standing.Makes.{takes, figures, open_items}
 use Rattle.script.proofs.Further.{kept_at, slots_kept, slots_stay, stands_further}
@@ -155,9 +154,6 @@ line_stands d index line a after performs group run stood =
     by_command (Some c) ranged is =
         let goes = command_goes_on group run d stood c a after ranged is in
         (goes.0, (goes.1, goes.2), goes.3)
-
-pub sheet_stands : (d : DeskView) (index : ℕ) (line : List ℕ) (after : DeskView) (bytes : List ℕ) → Printed line bytes (λ a. Performs d index line a after) → Printed line bytes (λ a. LineStands d index line a after)
-sheet_stands d index line after bytes (a, performs, printed) = (a, line_stands d index line a after performs, printed)
 
 lines_stand : (group : Group) (run : List Event) (d : DeskView) (index : ℕ) (lines : List (List ℕ)) (after : DeskView) (bytes : List ℕ) → PerformsAll d index lines after bytes → AfterRun group run d → (later : List Event) × PlaysAll group run d index lines later after bytes × AfterRun group later after
 lines_stand group run d index [] after bytes is stood = (run, (refl, is.0, is.1), subst (AfterRun group run) (sym is.0) stood)

@@ -38,6 +38,10 @@ abbrev pub line_letter : Option Command → ℕ
 line_letter None = 63
 line_letter (Some c) = letter c
 
+-- what is printed for a line that answers this
+abbrev pub sheet_of : List ℕ → Reply → List ℕ
+sheet_of line answer = printed_line (line_letter (command line)) answer
+
 -- these bytes are what is printed for an answer to the line of which P holds
 abbrev pub Printed : List ℕ → List ℕ → (Reply → Type 0) → Type 0
-Printed line bytes P = (a : Reply) × P a × (bytes ≡ printed_line (line_letter (command line)) a)
+Printed line bytes P = (a : Reply) × P a × (bytes ≡ sheet_of line a)

@@ -3,7 +3,7 @@ ghost use Rattle.std.specs.Option.{ForSome};
 ghost use Rattle.script.specs.Acts.{reply_of};
 ghost use Rattle.script.specs.Desk.{Acted, ActedAt, Performs, PerformsCommand};
 ghost use Rattle.script.specs.Lines.{Placed};
-ghost use Rattle.script.specs.Sheets.{Printed, sheet_bytes};
+ghost use Rattle.script.specs.Sheets.{sheet_bytes, sheet_of};
 ghost use Rattle.script.specs.Standing.{LineStands};
 
 use crate::acts::{move_stock, offer_article, take_slot};
@@ -61,26 +61,18 @@ impl Desk {
         }
     }
 
-    // Runs one line, without the byte that ends it, under its number in the script, and answers what is
-    // printed for it. A desk at the end of a run is then at the end of a longer one.
-    pub fn run(&mut self, index: usize, line: &[u8]) -> SheetLine
-        ensures does { Printed line.now (sheet_bytes result) (λ a.
-            Performs self.old index line.now a self.new) }
-        ensures stands { Printed line.now (sheet_bytes result) (λ a.
-            LineStands self.old index line.now a self.new) }
+    // Runs one line, without the byte that ends it, under its number in the script. Answers what the line
+    // answers, or its fault by number, place and layer, and what is printed for it. A desk at the end of a run
+    // is then at the end of a longer one.
+    pub fn run(&mut self, index: usize, line: &[u8]) -> (Result<Answer, LineFault>, SheetLine)
+        ensures does { Performs self.old index line.now (reply_of result.0) self.new }
+        ensures printed { sheet_bytes result.1 ≡ sheet_of line.now (reply_of result.0) }
+        ensures stands { LineStands self.old index line.now (reply_of result.0) self.new }
     {
         let command = parse(line);
         let letter = command.map_or('?', |command| command.letter());
         let answer = self.perform_command(index, command);
-        print(letter, answer)
-    }
-
-    // Does what `run` does and prints nothing: the answer, or the fault, by number, place and layer.
-    pub fn perform(&mut self, index: usize, line: &[u8]) -> Result<Answer, LineFault>
-        ensures does { Performs self.old index line.now (reply_of result) self.new }
-        ensures stands { LineStands self.old index line.now (reply_of result) self.new }
-    {
-        self.perform_command(index, parse(line))
+        (answer, print(letter, answer))
     }
 
     // Does the command that the line of this number writes, or refuses the line where it writes none.

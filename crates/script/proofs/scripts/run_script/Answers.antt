@@ -5,6 +5,7 @@ use Rattle.std.specs.Iterator.Adapters.{enumerate_count, enumerate_source}
 use Rattle.std.specs.Vec.{vec_capacity}
 use Rattle.std.specs.declared.iter.Enumerate.{Enumerate}
 use Rattle.script.specs.declared.scripts.Lines.{Lines}
+use Rattle.script.specs.Acts.{reply_of}
 use Rattle.script.specs.Desk.{Performs}
 use Rattle.script.specs.Scripts.{PerformsAll, Scripted, lines, script}
 use Rattle.script.specs.Sheets.{Printed, sheet_bytes}
@@ -44,7 +45,7 @@ loop-index-preserved c =
     let steps = c.in-Some.ensures.steps in
     let rest = lines (enumerate_source c.next.new.self).text.now in
     let before = inv.ran.0 in
-    let sheet = sheet_bytes c.run-sheet.result in
+    let sheet = sheet_bytes c.run-sheet.result.1 in
     let after = c.run-sheet.new.self in
     let this : ℕ × Bor (List ℕ) = (c.in-Some.index, c.in-Some.line) in
     let more : map (λ b. b.1.now) (c.loop-index.yielded ++ (this ∷ [])) ≡ done ++ (line ∷ []) = map-append (λ b. b.1.now) c.loop-index.yielded (this ∷ []) in
@@ -55,7 +56,7 @@ loop-index-preserved c =
       kept_room = omega (arith, inv.kept_room, c.in_ok-extend_from_slice.ensures.capacity);
       ran = (
         before ++ sheet,
-        subst (λ ls. PerformsAll start 0 ls after (before ++ sheet)) (sym more) (runs_more start c.loop-index.desk after 0 done line before sheet inv.ran.1 (subst (λ n. Printed line sheet (λ a. Performs c.loop-index.desk n line a after)) numbered c.run-sheet.ensures.does)),
+        subst (λ ls. PerformsAll start 0 ls after (before ++ sheet)) (sym more) (runs_more start c.loop-index.desk after 0 done line before sheet inv.ran.1 (subst (λ n. Printed line sheet (λ a. Performs c.loop-index.desk n line a after)) numbered (reply_of c.run-sheet.result.0, c.run-sheet.ensures.does, c.run-sheet.ensures.printed))),
         c.in_ok-extend_from_slice.ensures.items ∙ (λ i. inv.ran.2 i ++ c.as_slice.ensures i) ∙ append_assoc out before sheet,
       );
     }
@@ -69,7 +70,7 @@ returns-in_err-extend_from_slice c =
     let inv = c.loop-index.invariant in
     let done = map (λ b. b.1.now) c.loop-index.yielded in
     let steps = c.in-Some.ensures.steps in
-    let lost = sheet_bytes c.run-sheet.result in
+    let lost = sheet_bytes c.run-sheet.result.1 in
     let after = c.run-sheet.new.self in
     let grown = c.extend_from_slice.new.self.items in
     let fault = err_from_is_err_and c.from_residual.result c.from_residual.ensures.1 in
@@ -88,7 +89,7 @@ returns-in_err-extend_from_slice c =
       inv.ran.0,
       lost,
       inv.ran.1,
-      subst (λ n. Printed line lost (λ a. Performs c.loop-index.desk n line a after)) numbered c.run-sheet.ensures.does,
+      subst (λ n. Printed line lost (λ a. Performs c.loop-index.desk n line a after)) numbered (reply_of c.run-sheet.result.0, c.run-sheet.ensures.does, c.run-sheet.ensures.printed),
       c.in_err-extend_from_slice.ensures.items ∙ inv.ran.2,
       full,
     )
