@@ -1,6 +1,6 @@
 // What a proof cannot show: that there is memory for a rack and for a desk, since a body that always wanted
-// for memory would be proved. And two of the worked examples as the library answers them, with number, place
-// and layer.
+// for memory would be proved. And two examples of docs/REFUSALS.md and docs/MESSAGES.md as the library answers
+// them, with number, place and layer.
 use action::{Layer, Refusal, Setup};
 use history::{History, PLACE_BYTES, Rack, Strip};
 use kind::OnHand;

@@ -126,7 +126,7 @@ pub record Follows (kind : Meaning) (setup : Setup) (before : List Record) (r : 
   pub ours : Ours kind setup r
   pub keeps : Keeps kind setup before r
 
--- each of the second records follows the first ones and those of the second before it
+-- each record of the second list follows all of the first list and those before it in the second
 abbrev pub InTurn : Meaning → Setup → List Record → List Record → Type 0
 InTurn kind setup before [] = Unit {0}
 InTurn kind setup before (r ∷ rs) = Follows kind setup before r × InTurn kind setup (before ++ (r ∷ [])) rs

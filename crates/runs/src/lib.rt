@@ -6,14 +6,14 @@ ghost use Rattle.runs.specs.Laws.{Believed, Counted, Entered, Learned, Level, No
 
 use kind::Kind;
 
-// Holds of every run of tables of this kind. Each site's figures count each committed movement that the site
-// has just once, and the site that committed a movement has it. Where an article is an open item nowhere, its
+// Holds of every run of tables of this kind. Each site's figures count, just once, each committed movement that
+// the site has, and the site that committed a movement has it. Where an article is an open item nowhere, its
 // figure at every site is that of all movements committed on it, each counted once. A message taken again
 // changes nothing. No table believes that a site has more than that site's own table shows, and no site has
 // more of a site's movements than that site itself. What was written is true: a message names the site that wrote
 // it, it carries just the committed movements in its intervals, and its sender has what they say. Of a message
-// that it took, a table knows that the sender and its own site have what the intervals say, and the book enters
-// the same.
+// that it took, a table knows that the sender and its own site have what the intervals say; and the book of the
+// run, by which movements are counted here, enters the same.
 pub fn each_movement_counted_once<K: Kind>()
     ensures counted { Counted K.means }
     ensures level { Level K.means }

@@ -12,7 +12,8 @@ use Rattle.script.specs.Lines.{command}
 abbrev pub sheet_bytes : SheetLine → List ℕ
 sheet_bytes s = s.text.items
 
--- a blank and the answer, of which an open item is 1 and none is 0; or ` refused ` and the refusal's number
+-- a blank and the answer, which for `P` is 1 where there is an open item and 0 where not; or ` refused ` and the
+-- refusal's number
 abbrev pub answer_bytes : Reply → List ℕ
 answer_bytes (Ok (Answers.Time t)) = 32 ∷ decimal t
 answer_bytes (Ok (Answers.Length n)) = 32 ∷ decimal n
@@ -42,6 +43,6 @@ line_letter (Some c) = letter c
 abbrev pub sheet_of : List ℕ → Reply → List ℕ
 sheet_of line answer = printed_line (line_letter (command line)) answer
 
--- these bytes are what is printed for an answer to the line of which P holds
+-- for some answer of which P holds, these bytes are what is printed for the line
 abbrev pub Printed : List ℕ → List ℕ → (Reply → Type 0) → Type 0
 Printed line bytes P = (a : Reply) × P a × (bytes ≡ sheet_of line a)

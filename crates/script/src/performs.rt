@@ -63,7 +63,7 @@ impl Desk {
 
     // Runs one line, without the byte that ends it, under its number in the script. Answers what the line
     // answers, or its fault by number, place and layer, and what is printed for it. A desk at the end of a run
-    // is then at the end of a longer one.
+    // is then at the end of that run and the calls made here.
     pub fn run(&mut self, index: usize, line: &[u8]) -> (Result<Answer, LineFault>, SheetLine)
         ensures does { Performs self.old index line.now (reply_of result.0) self.new }
         ensures printed { sheet_bytes result.1 ≡ sheet_of line.now (reply_of result.0) }

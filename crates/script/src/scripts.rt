@@ -51,8 +51,8 @@ impl<'a> Iterator for Lines<'a> {
 }
 
 // Runs the lines of a script on the desk and appends what they print. A desk at the end of a run is at the end
-// of a longer one then, and each figure printed is what the run counts. It fails only where the capacity of
-// `out` is below what is to be printed and there is no memory for more.
+// of that run and the calls made here then, and each figure printed is what the run counts. It fails only where
+// the capacity of `out` is below what is to be printed and there is no memory for more.
 pub fn run_script(desk: &mut Desk, input: &[u8], out: &mut Vec<u8>) -> Result<(), AllocError>
     ensures does { Scripted desk.old input.now out.old.items (vec_capacity out.old) result desk.new out.new.items }
     ensures stands { ScriptStands desk.old input.now out.old.items (vec_capacity out.old) result desk.new out.new.items }
