@@ -15,13 +15,11 @@ use Rattle.action.proofs.Sequence.{ascending_kept, ascending_parts, ascending_to
 use Rattle.kind.specs.Meaning.{Meaning}
 use Rattle.kind.specs.Working.{on}
 use Rattle.message.specs.declared.records.Interval.{Interval}
-use Rattle.message.specs.Format.{Message, carried, format, records, told_intervals}
+use Rattle.message.specs.Format.{Message, carried, format, told_intervals}
 use Rattle.message.specs.Lawful.{LawfulInterval, LawfulMessage}
-use Rattle.message.specs.Walks.{intervals_of}
-use Rattle.message.proofs.Carried.{told_intervals_lawful, told_intervals_of}
-use Rattle.message.proofs.Sameness.{lawful_fits}
+use Rattle.message.proofs.Carried.{told_intervals_lawful}
+use Rattle.message.proofs.ReadingBack.{intervals_back}
 use Rattle.message.proofs.Verdicts.{messages_unique}
-use Rattle.message.proofs.Walking.{records_joined}
 use Rattle.table.specs.declared.faults.TableFault.{TableFault}
 use Rattle.table.specs.Sound.{Fitting, Sound}
 use Rattle.table.specs.Taking.{highest, is_new, news, take_refusal, taken, taken_row}
@@ -253,7 +251,7 @@ module _ (kind : Meaning) (group : Group) (s : ℕ) (b : Book) (v : View) (m : M
 -- what a lawful message says of times, read from its bytes
 pub times_read : (kind : Meaning) (small : kind.number ≤ 255) (setup : Setup) (m : Message) → LawfulMessage kind setup m → (bytes : List ℕ) → bytes ≡ format m → (a q : ℕ) → taken_times bytes a q ≡ highest a q (told_intervals m)
 times_read kind small setup m lawful bytes is a q =
-    ap (λ bs. taken_times bs a q) is ∙ ap (λ rs. highest a q (intervals_of 0 rs)) (records_joined (records m) (lawful_fits kind setup small m lawful)) ∙ ap (highest a q) (told_intervals_of 0 m)
+    ap (highest a q) (intervals_back bytes m (kind, setup, record { one_byte = small; lawful = lawful; written = is }))
 
 module _ (kind : Meaning) (step_fits : (f : ℤ) (o : ℕ) (a : ℤ) → SFits w64 f → SFits w64 (kind.steps f o a)) (commute : (f : ℤ) (o : ℕ) (a : ℤ) (p : ℕ) (b : ℤ) → SFits w64 f → kind.commutes ≡ true → kind.knows o a ≡ true → kind.knows p b ≡ true → kind.steps (kind.steps f o a) p b ≡ kind.steps (kind.steps f p b) o a) (small : kind.number ≤ 255) where
   module _ (group : Group) (before : List Event) (s : ℕ) (old views : ℕ → View) (st : Standing kind group before old) where
@@ -271,7 +269,7 @@ module _ (kind : Meaning) (step_fits : (f : ℤ) (o : ℕ) (a : ℤ) → SFits w
 
         by_told : Somewhere bytes → IsMessageOf kind group bytes m × IsTruthful told_book old m
         by_told (from, inl none) = absurd (let e = sym none ∙ is in omega (arith, ap length e))
-        by_told (from, inr (n, sent, own, truthful)) =
+        by_told (from, inr (n, sent, _, truthful)) =
             let there : LawfulMessage kind (old s).setup n = subst (λ (u : Setup). LawfulMessage kind u n) (sym (st.sites s of_group).setup_is) (sent.lawful s of_group) in
             let same : n ≡ m = messages_unique kind (old s).setup small bytes n m there lawful sent.is is in
             (subst (IsMessageOf kind group bytes) same sent, subst (IsTruthful told_book old) same truthful)
