@@ -5,7 +5,7 @@ use Rattle.std.specs.List.{ContainsAt as Has, suffix_len, prefix_len, AllByRecur
 use Rattle.std.proofs.ByRecursion.{All-append, all-has, All-push, All-weaker, has_append_left, has_append_right}
 use Rattle.std.proofs.lemmas.List.{drop_at, length-append, take_at}
 use Rattle.std.proofs.lemmas.Bool.{not-true, not-false}
-use Rattle.action.specs.declared.orders.Action.{Action}
+use Rattle.action.specs.declared.action.Action.{Action}
 use Rattle.action.specs.Order.{Apart, Ascending, Distinct, Leads, in_order, place_of, placed, precedes}
 use Rattle.action.proofs.Members.{all_append_parts, all_from_has, has_append_cases, has_cons_cases, has_first, has_later, has_none}
 use Rattle.action.proofs.Precedence.{precedes_trans}

@@ -1,9 +1,9 @@
 -- Which set-ups there are, and how refusals are written down. Assumes nothing.
 use Rattle.std.specs.Prelude.{◌≡◌, ℕ, ◌<◌, ◌≤◌, Bool, cond, Some, Ok, Err, Option, Result}
-use Rattle.action.specs.declared.refusals.Layer.TheVariants.{Reader, History, Table}
-use Rattle.action.specs.declared.refusals.Refusal.{Refusal}
-use Rattle.action.specs.declared.setups.Setup.{Setup}
-use Rattle.action.specs.declared.setups.UnlawfulSetup.{UnlawfulSetup}
+use Rattle.action.specs.declared.refusal.Layer.TheVariants.{Reader, History, Table}
+use Rattle.action.specs.declared.refusal.Refusal.{Refusal}
+use Rattle.action.specs.declared.setup.Setup.{Setup}
+use Rattle.action.specs.declared.setup.UnlawfulSetup.{UnlawfulSetup}
 
 -- a group, its number of sites, the own site and the number of articles
 pub record Lawful (group sites own articles : ℕ) : Type 0 where

@@ -1,3 +1,4 @@
 pub mod Bytes
 pub mod Lawful
 pub mod Order
+pub mod Words

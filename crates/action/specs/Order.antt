@@ -1,7 +1,7 @@
 -- The order of actions. Assumes nothing.
 use Rattle.std.specs.Prelude.{◌≡◌, ℕ, ◌-◌, Bool, true, not, ◌&&◌, ◌||◌, List, [], ◌∷◌, length, fold, ◌==◌, nat_lt}
 use Rattle.std.specs.List.{insert, suffix_len, AllByRecursion}
-use Rattle.action.specs.declared.orders.Action.{Action}
+use Rattle.action.specs.declared.action.Action.{Action}
 
 -- by time, then coordinator, then article
 abbrev pub precedes : Action → Action → Bool

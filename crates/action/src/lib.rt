@@ -1,15 +1,11 @@
 // What every other crate of the site tables speaks of: actions and their order, the set-up of a
-// group, the limits, and how a refusal is shown.
+// table, and refusals.
 #![tactic(auto)]
 
-mod limits;
-mod makes;
-mod orders;
-mod records;
-mod refusals;
-mod setups;
+mod action;
+mod refusal;
+mod setup;
 
-pub use limits::{LATEST_TIME, MOST_ARTICLES, MOST_PLACES, MOST_SITES, MOST_WRITES};
-pub use orders::Action;
-pub use refusals::{Layer, Refusal};
-pub use setups::{Setup, UnlawfulSetup};
+pub use action::{ACTION_BYTES, Action, LATEST_TIME};
+pub use refusal::{Layer, Refusal};
+pub use setup::{MOST_ARTICLES, MOST_SITES, Setup, UnlawfulSetup};

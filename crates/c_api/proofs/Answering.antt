@@ -1,6 +1,6 @@
 -- What the check answers for a set-up that was made is the call's answer.
 use Rattle.std.proofs.Common.{◌≡◌, ℕ, List, ℤ, Some, Ok}
-use Rattle.action.specs.declared.setups.Setup.{Setup}
+use Rattle.action.specs.declared.setup.Setup.{Setup}
 use Rattle.action.specs.Lawful.{Made}
 use Rattle.kind.specs.Meaning.{Meaning}
 use Rattle.c_api.specs.Call.{Answered, answered, Checked, kind_of}

@@ -1,10 +1,10 @@
 -- What the call for C answers. Assumes nothing.
 use Rattle.std.specs.Prelude.{◌≡◌, ℕ, cond, List, ℤ, pos, neg_ℤ, Some, None, Ok, Err, Option, Result, ◌==◌}
-use Rattle.action.specs.declared.setups.Setup.{Setup}
+use Rattle.action.specs.declared.setup.Setup.{Setup}
 use Rattle.action.specs.Lawful.{Lawful}
 use Rattle.kind.specs.Meaning.{Meaning}
 use Rattle.kind.specs.Meanings.{flags, on_hand, price}
-use Rattle.message.specs.declared.faults.ReaderFault.{ReaderFault}
+use Rattle.message.specs.declared.reader_fault.ReaderFault.{ReaderFault}
 use Rattle.message.specs.Checks.{Accepted, Refused}
 use Rattle.message.specs.Faults.{shown}
 

@@ -1,7 +1,7 @@
 -- Why the call for C counts no actions, by number. Assumes nothing.
 use Rattle.std.specs.Prelude.{ℕ, ℤ, pos, neg_ℤ, Ok, Err, Result}
-use Rattle.c_api.specs.declared.faults.CallFault.{CallFault}
-use Rattle.c_api.specs.declared.faults.CallFault.TheVariants.{NoTable, InReader}
+use Rattle.c_api.specs.declared.call_fault.CallFault.{CallFault}
+use Rattle.c_api.specs.declared.call_fault.CallFault.TheVariants.{NoTable, InReader}
 use Rattle.message.specs.Faults.{shown}
 
 abbrev pub number : CallFault → ℕ

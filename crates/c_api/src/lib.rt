@@ -1,7 +1,7 @@
 // The one call for C.
 #![tactic(auto)]
 
-mod faults;
+mod call_fault;
 
 ghost use Rattle.std.specs.Prelude.{◌≡◌};
 ghost use Rattle.action.specs.Lawful.{Made};
@@ -9,7 +9,7 @@ ghost use Rattle.c_api.specs.Call.{Answered, Checked};
 ghost use Rattle.c_api.specs.Faults.{as_answer};
 
 use action::{Setup, UnlawfulSetup};
-use faults::CallFault;
+use call_fault::CallFault;
 use kind::{Flags, Kind, OnHand, Price};
 use message::check;
 

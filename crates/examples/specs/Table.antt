@@ -1,9 +1,9 @@
 -- The worked examples as one table. Assumes nothing.
 use Rattle.std.specs.Prelude.{◌≡◌, ℕ, true, List, [], ◌∷◌, map, ℤ, pos, neg_ℤ, Some, None, Option}
 use Rattle.std.proofs.Common.{lit<, lit≤}
-use Rattle.action.specs.declared.orders.Action.{Action}
-use Rattle.action.specs.declared.refusals.Refusal.{Refusal}
-use Rattle.action.specs.declared.setups.Setup.{Setup}
+use Rattle.action.specs.declared.action.Action.{Action}
+use Rattle.action.specs.declared.refusal.Refusal.{Refusal}
+use Rattle.action.specs.declared.setup.Setup.{Setup}
 use Rattle.action.specs.Lawful.{by_table}
 use Rattle.action.specs.Order.{precedes}
 use Rattle.kind.specs.Meanings.{on_hand, on_hand_step, flags_step, price_step}

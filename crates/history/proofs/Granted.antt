@@ -2,8 +2,8 @@
 use Rattle.std.proofs.Common.{◌≡◌, ℕ, ◌<◌, List, length, Ok, Err, Result, arith}
 use Rattle.std.specs.List.{remove}
 use Rattle.std.proofs.lemmas.Bool.Decides.{nat_tests}
-use Rattle.action.specs.declared.orders.Action.{Action}
-use Rattle.history.specs.declared.faults.HistoryFault.{HistoryFault}
+use Rattle.action.specs.declared.action.Action.{Action}
+use Rattle.history.specs.declared.history_fault.HistoryFault.{HistoryFault}
 use Rattle.history.specs.Changes.{Removed}
 
 pub granted_remove : (xs : List Action) (i : ℕ) (r : Result Action HistoryFault) (ys : List Action) → i < length xs → Removed xs i r ys → ys ≡ remove xs i

@@ -1,10 +1,10 @@
 -- What each function of a history does to its list of actions. Assumes nothing.
 use Rattle.std.specs.Prelude.{◌≡◌, ℕ, List, length, Some, None, Ok, Err, Option, Result, nat_le, nat_lt, slice_index_or}
 use Rattle.std.specs.List.{insert, remove}
-use Rattle.action.specs.declared.orders.Action.{Action}
-use Rattle.action.specs.declared.refusals.Refusal.{Refusal}
+use Rattle.action.specs.declared.action.Action.{Action}
+use Rattle.action.specs.declared.refusal.Refusal.{Refusal}
 use Rattle.action.specs.Lawful.{by_history, unless}
-use Rattle.history.specs.declared.faults.HistoryFault.{HistoryFault}
+use Rattle.history.specs.declared.history_fault.HistoryFault.{HistoryFault}
 use Rattle.history.specs.Faults.{shown}
 
 -- place i of the list is asked for

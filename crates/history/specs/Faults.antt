@@ -1,8 +1,8 @@
 -- A history's fault by number, place and layer. Assumes nothing.
-use Rattle.action.specs.declared.refusals.Refusal.{Refusal}
+use Rattle.action.specs.declared.refusal.Refusal.{Refusal}
 use Rattle.action.specs.Lawful.{by_history}
-use Rattle.history.specs.declared.faults.HistoryFault.{HistoryFault}
-use Rattle.history.specs.declared.faults.HistoryFault.TheVariants.{Full, NoPlace}
+use Rattle.history.specs.declared.history_fault.HistoryFault.{HistoryFault}
+use Rattle.history.specs.declared.history_fault.HistoryFault.TheVariants.{Full, NoPlace}
 
 abbrev pub shown : HistoryFault → Refusal
 shown (Full capacity) = by_history 16 capacity

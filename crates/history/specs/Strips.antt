@@ -1,7 +1,7 @@
 -- Actions kept as bytes, sixteen to a place. Assumes nothing.
 use Rattle.std.specs.Prelude.{◌≡◌, ℕ, zero, suc, ◌*◌, List, [], ◌∷◌, take, drop}
 use Rattle.std.specs.List.{flat_map}
-use Rattle.action.specs.declared.orders.Action.{Action}
+use Rattle.action.specs.declared.action.Action.{Action}
 use Rattle.action.specs.Bytes.{action_bytes, action_of}
 
 -- the actions that the first n places stand for

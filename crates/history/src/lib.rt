@@ -1,18 +1,16 @@
 // Histories: the actions that a table keeps, behind one interface with two ways to keep them.
 #![tactic(auto)]
 
-mod eithers;
-mod faults;
-mod interface;
-mod listing;
-mod racks;
-mod strips;
-mod walks;
+mod history;
+mod history_fault;
+mod rack;
+mod rack_or_strip;
+mod strip;
+mod walk;
 
-pub use eithers::Shelf;
-pub use faults::HistoryFault;
-pub use interface::History;
-pub use listing::actions;
-pub use racks::Rack;
-pub use strips::{PLACE_BYTES, Strip};
-pub use walks::Actions;
+pub use history::{History, MOST_PLACES};
+pub use history_fault::HistoryFault;
+pub use rack::Rack;
+pub use rack_or_strip::RackOrStrip;
+pub use strip::{PLACE_BYTES, Strip};
+pub use walk::{Walk, actions};

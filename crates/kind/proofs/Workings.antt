@@ -4,7 +4,7 @@ use Rattle.std.proofs.Common.{◌≡◌, ℕ, Bool, true, false, cond, eqb, List
 use Rattle.std.specs.List.{AllByRecursion}
 use Rattle.std.proofs.lemmas.List.Elements.{filter-append}
 use Rattle.std.proofs.ByRecursion.{all_kept_by}
-use Rattle.action.specs.declared.orders.Action.{Action}
+use Rattle.action.specs.declared.action.Action.{Action}
 use Rattle.action.specs.Order.{placed}
 use Rattle.action.proofs.Members.{all_append_parts}
 use Rattle.action.proofs.Placing.{Placing, placed_all, placing}

@@ -1,6 +1,6 @@
 -- The actions on an article, and the figure that they lead to. Assumes nothing.
 use Rattle.std.specs.Prelude.{ℕ, Bool, List, [], ◌∷◌, ℤ, filter, nat_eq}
-use Rattle.action.specs.declared.orders.Action.{Action}
+use Rattle.action.specs.declared.action.Action.{Action}
 
 -- the actions on one article, in their order
 abbrev pub on : ℕ → List Action → List Action

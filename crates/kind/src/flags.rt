@@ -1,9 +1,9 @@
-ghost use Rattle.kind.specs.Meanings.{flags};
-ghost use Rattle.kind.specs.FlagsLaws.{flags_commute, flags_fits, flags_unknown};
 ghost use Rattle.std.proofs.Common.{lit≤, refl};
 ghost use Rattle.std.proofs.Math.Facts.{sfits_lit};
+ghost use Rattle.kind.specs.Meanings.{flags};
+ghost use Rattle.kind.specs.FlagsLaws.{flags_commute, flags_fits, flags_unknown};
 
-use crate::interface::Kind;
+use crate::kind::Kind;
 
 // Flags, a bit for each: kind 2.
 #[derive(Clone, Copy, Debug, PartialEq, Eq)]

@@ -2,11 +2,11 @@
 #![tactic(auto)]
 
 mod flags;
-mod interface;
+mod kind;
 mod on_hand;
 mod price;
 
 pub use flags::Flags;
-pub use interface::Kind;
+pub use kind::Kind;
 pub use on_hand::OnHand;
 pub use price::Price;

@@ -1,9 +1,9 @@
-ghost use Rattle.kind.specs.Meanings.{on_hand};
-ghost use Rattle.kind.specs.OnHandLaws.{on_hand_commutes, on_hand_fits, on_hand_unknown};
 ghost use Rattle.std.proofs.Common.{lit≤, refl};
 ghost use Rattle.std.proofs.Math.Facts.{sfits_lit};
+ghost use Rattle.kind.specs.Meanings.{on_hand};
+ghost use Rattle.kind.specs.OnHandLaws.{on_hand_commutes, on_hand_fits, on_hand_unknown};
 
-use crate::interface::Kind;
+use crate::kind::Kind;
 
 // How many are on hand: kind 1.
 #[derive(Clone, Copy, Debug, PartialEq, Eq)]

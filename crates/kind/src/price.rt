@@ -1,12 +1,12 @@
 ghost use Rattle.std.specs.Prelude.{◌≡◌, false, pos, neg_ℤ, ◌≤ℤ◌, MatchOption};
-ghost use Rattle.kind.specs.Changes.{StandsFor};
-ghost use Rattle.kind.specs.Meanings.{held, price, price_knows, raised};
-ghost use Rattle.kind.specs.PriceLaws.{price_fits, price_unknown};
 ghost use Rattle.std.proofs.Common.{lit≤, refl};
 ghost use Rattle.std.proofs.Math.Facts.{sfits_lit};
 ghost use Rattle.std.proofs.lemmas.Bool.{false≢true};
+ghost use Rattle.kind.specs.Changes.{StandsFor};
+ghost use Rattle.kind.specs.Meanings.{held, price, price_knows, raised};
+ghost use Rattle.kind.specs.PriceLaws.{price_fits, price_unknown};
 
-use crate::interface::Kind;
+use crate::kind::Kind;
 
 // A price in cents: kind 3.
 #[derive(Clone, Copy, Debug, PartialEq, Eq)]

@@ -3,14 +3,14 @@
 #![tactic(auto)]
 
 mod counts;
-mod groups;
-mod jobs;
-mod pairs;
-mod seasons;
-mod sites;
-mod slots;
+mod group;
+mod job;
+mod posted;
+mod season;
+mod site;
+mod slot;
 
-use jobs::Job;
+use crate::job::Job;
 use std::io;
 use trials::NoJob;
 

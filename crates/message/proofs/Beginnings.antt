@@ -5,16 +5,16 @@ use Rattle.std.proofs.lemmas.List.{append_assoc, append_cancel_left, append-nil,
 use Rattle.std.proofs.lemmas.Bool.{false≢true}
 use Rattle.std.proofs.lemmas.Grind.{flat_map-append}
 use Rattle.std.proofs.lemmas.List.Sums.{fold-append}
-use Rattle.action.specs.declared.refusals.Refusal.{Refusal}
-use Rattle.action.specs.declared.setups.Setup.{Setup}
+use Rattle.action.specs.declared.refusal.Refusal.{Refusal}
+use Rattle.action.specs.declared.setup.Setup.{Setup}
 use Rattle.action.proofs.Members.{all_append_parts}
 use Rattle.kind.specs.Meaning.{Meaning}
-use Rattle.message.specs.declared.faults.Flaw.{Flaw}
-use Rattle.message.specs.declared.reading.Due.{Due}
-use Rattle.message.specs.declared.reading.Progress.{Progress}
-use Rattle.message.specs.declared.records.Header.{Header}
-use Rattle.message.specs.declared.records.Record.{Record}
-use Rattle.message.specs.declared.records.Record.TheVariants as RecordKinds
+use Rattle.message.specs.declared.reader_fault.UnplacedFault.{UnplacedFault}
+use Rattle.message.specs.declared.due.Due.{Due}
+use Rattle.message.specs.declared.progress.Progress.{Progress}
+use Rattle.message.specs.declared.record.Header.{Header}
+use Rattle.message.specs.declared.record.Record.{Record}
+use Rattle.message.specs.declared.record.Record.TheVariants as RecordKinds
 use Rattle.message.specs.Checks.{StartsWith}
 use Rattle.message.specs.Decoding.{decoded}
 use Rattle.message.specs.Fields.{Fitting}
@@ -37,7 +37,7 @@ Begins rs qs = (ts : List Record) × (qs ≡ rs ++ ts)
 -- bytes start with one record at most of the kind due
 pub same_record : (d : Due) (r q : Record) (bs : List ℕ) → is_due d r ≡ true → is_due d q ≡ true → Fitting r → Fitting q → StartsWith bs r → StartsWith bs q → r ≡ q
 same_record d r q bs is so f g s t =
-    let e : ◌≡◌ {A = Result (Option Record) Flaw} (Ok (Some r)) (Ok (Some q)) = sym (decoded_format s.0 d r is f) ∙ ap (decoded d) (sym s.1 ∙ t.1) ∙ decoded_format t.0 d q so g in
+    let e : ◌≡◌ {A = Result (Option Record) UnplacedFault} (Ok (Some r)) (Ok (Some q)) = sym (decoded_format s.0 d r is f) ∙ ap (decoded d) (sym s.1 ∙ t.1) ∙ decoded_format t.0 d q so g in
     cc
 
 -- the bytes after a first record
@@ -55,7 +55,7 @@ module _ (kind : Meaning) (setup : Setup) where
       let b = first_on kind setup p f q qs k in
       let bytes = sym (starts r rs more) ∙ same ∙ starts q qs less in
       let one : r ≡ q = same_record p.due r q (record_bytes r ++ (flat_map record_bytes rs ++ more)) a.was_due b.was_due fit.0 git.0 (flat_map record_bytes rs ++ more, refl) (flat_map record_bytes qs ++ less, bytes) in
-      let next : ◌≡◌ {A = Result Progress Flaw} (Ok a.next) (Ok b.next) = sym a.passes ∙ ap (admitted kind setup p) one ∙ b.passes in
+      let next : ◌≡◌ {A = Result Progress UnplacedFault} (Ok a.next) (Ok b.next) = sym a.passes ∙ ap (admitted kind setup p) one ∙ b.passes in
       let on : b.next ≡ a.next = cc in
       let rest = append_cancel_left (record_bytes r) (flat_map record_bytes rs ++ more) (flat_map record_bytes qs ++ less) (bytes ∙ ap (λ x. record_bytes x ++ (flat_map record_bytes qs ++ less)) (sym one)) in
       put one (beginnings a.next e f rs qs more less a.onto (ap (λ n. fold (onward kind setup) (Some n) qs) (sym on) ∙ b.onto) fit.1 git.1 rest)

@@ -1,10 +1,10 @@
 -- Records of one kind, one after another: a section's intervals, and its actions. Assumes nothing.
 use Rattle.std.proofs.Common.{◌≡◌, ℕ, zero, suc, ◌-◌, ◌≤◌, Bool, true, List, [], ◌∷◌, ◌++◌, map, length, Some, Ok, fold, sym, refl, ap, ◌∙◌, arith}
-use Rattle.action.specs.declared.setups.Setup.{Setup}
+use Rattle.action.specs.declared.setup.Setup.{Setup}
 use Rattle.kind.specs.Meaning.{Meaning}
-use Rattle.message.specs.declared.reading.Due.{Due}
-use Rattle.message.specs.declared.reading.Progress.{Progress}
-use Rattle.message.specs.declared.records.Record.{Record}
+use Rattle.message.specs.declared.due.Due.{Due}
+use Rattle.message.specs.declared.progress.Progress.{Progress}
+use Rattle.message.specs.declared.record.Record.{Record}
 use Rattle.message.specs.Progress.{admitted}
 use Rattle.message.specs.Reading.{onward}
 use Rattle.message.specs.Rules.{is_due}

@@ -4,16 +4,16 @@ use Rattle.std.specs.Option.{option_map}
 use Rattle.std.specs.List.{flat_map, ContainsAt as Has, AllByRecursion}
 use Rattle.std.proofs.ByRecursion.{All-append, all-has, all_has_itself, All-map, All-weaker, has_append_left, has_append_right}
 use Rattle.std.proofs.lemmas.Bool.{cases_Bool, cond-false, cond-true}
-use Rattle.action.specs.declared.orders.Action.{Action}
-use Rattle.action.specs.declared.setups.Setup.{Setup}
+use Rattle.action.specs.declared.action.Action.{Action}
+use Rattle.action.specs.declared.setup.Setup.{Setup}
 use Rattle.action.proofs.Members.{has_cons_cases, has_first, has_later, has_none}
 use Rattle.action.proofs.Pairs.{pairwise_append}
 use Rattle.action.proofs.Ranks.{AllRanked, Ranked, ascending_ranked, ranked_unless}
 use Rattle.kind.specs.Meaning.{Meaning}
-use Rattle.message.specs.declared.reading.Stretch.{Stretch}
-use Rattle.message.specs.declared.records.Interval.{Interval}
-use Rattle.message.specs.declared.records.Record.{Record}
-use Rattle.message.specs.declared.records.Record.TheVariants as RecordKinds
+use Rattle.message.specs.declared.intervals.FoundInterval.{FoundInterval}
+use Rattle.message.specs.declared.record.Interval.{Interval}
+use Rattle.message.specs.declared.record.Record.{Record}
+use Rattle.message.specs.declared.record.Record.TheVariants as RecordKinds
 use Rattle.message.specs.Format.{Message, Section, carried, record_bytes, records, section_records, told_intervals}
 use Rattle.message.specs.Found.{first_place}
 use Rattle.message.specs.Lawful.{Carries, LawfulAction, LawfulInterval, LawfulMessage, LawfulSection, Rising}
@@ -49,10 +49,10 @@ none_found test at a (RecordKinds.Interval i ∷ rs) h =
     (λ e. (e, none_found test (at + 10) a rs (sym (ap place (cond-false (test a i) (Some first) _ e)) ∙ h)))
     (cases_Bool (test a i))
   where
-    first : Stretch
+    first : FoundInterval
     first = record { offset = at; article = a; interval = i }
 
-    place : Option Stretch → Option ℕ
+    place : Option FoundInterval → Option ℕ
     place o = option_map (λ s. s.offset) o
 none_found test at a (r ∷ rs) h = none_found test (at + length (record_bytes r)) (article_after a r) rs h
 

@@ -1,7 +1,7 @@
 -- How many actions a message can carry. Assumes nothing.
 use Rattle.std.proofs.Common.{◌≤◌, length, arith}
 use Rattle.std.proofs.ByRecursion.{All-weaker, sum_by_le}
-use Rattle.action.specs.declared.setups.Setup.{Setup}
+use Rattle.action.specs.declared.setup.Setup.{Setup}
 use Rattle.kind.specs.Meaning.{Meaning}
 use Rattle.message.specs.Format.{Message, Section}
 use Rattle.message.specs.Lawful.{LawfulMessage, LawfulSection, action_count}

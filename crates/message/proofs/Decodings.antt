@@ -1,16 +1,16 @@
 -- A record's own bytes are read as that record. Assumes nothing.
 use Rattle.std.proofs.Common.{◌≡◌, ℕ, ◌+◌, ◌*◌, ◌/◌, ◌%◌, ◌<◌, ◌≤◌, true, List, ◌++◌, length, get_or, Some, Ok, Err, refl, ap, ◌∙◌, arith}
 use Rattle.std.proofs.lemmas.Bool.{and_from, cond-true, eq-eqb, false≢true, le-leb}
-use Rattle.action.specs.declared.orders.Action.{Action}
+use Rattle.action.specs.declared.action.Action.{Action}
 use Rattle.action.specs.Bytes.{action_bytes, action_of}
 use Rattle.action.proofs.Round.{action_back, four_bytes}
-use Rattle.message.specs.declared.faults.Flaw.TheVariants.{Cut}
-use Rattle.message.specs.declared.reading.Due.{Due}
-use Rattle.message.specs.declared.records.Header.{Header}
-use Rattle.message.specs.declared.records.Interval.{Interval}
-use Rattle.message.specs.declared.records.SectionHead.{SectionHead}
-use Rattle.message.specs.declared.records.Record.{Record}
-use Rattle.message.specs.declared.records.Record.TheVariants as RecordKinds
+use Rattle.message.specs.declared.reader_fault.UnplacedFault.TheVariants.{Cut}
+use Rattle.message.specs.declared.due.Due.{Due}
+use Rattle.message.specs.declared.record.Header.{Header}
+use Rattle.message.specs.declared.record.Interval.{Interval}
+use Rattle.message.specs.declared.record.SectionHead.{SectionHead}
+use Rattle.message.specs.declared.record.Record.{Record}
+use Rattle.message.specs.declared.record.Record.TheVariants as RecordKinds
 use Rattle.message.specs.Decoding.{begins, decoded, header_in, interval_in, section_in}
 use Rattle.message.specs.Fields.{ActionFits, Fitting, HeaderFits, IntervalFits, SectionFits}
 use Rattle.message.specs.Format.{header_bytes, interval_bytes, record_bytes, section_bytes}

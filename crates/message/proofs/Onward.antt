@@ -2,18 +2,18 @@
 use Rattle.std.proofs.Common.{◌≡◌, Bool, true, false, cond, List, [], ◌∷◌, Some, None, Ok, Err, Result, fold, sym, refl, ◌∙◌}
 use Rattle.std.specs.Result.{result_ok}
 use Rattle.std.proofs.lemmas.Bool.{false≢true}
-use Rattle.action.specs.declared.orders.Action.{Action}
-use Rattle.action.specs.declared.setups.Setup.{Setup}
+use Rattle.action.specs.declared.action.Action.{Action}
+use Rattle.action.specs.declared.setup.Setup.{Setup}
 use Rattle.kind.specs.Meaning.{Meaning}
-use Rattle.message.specs.declared.faults.Flaw.{Flaw}
-use Rattle.message.specs.declared.faults.Flaw.TheVariants.{Foreign, Broken}
-use Rattle.message.specs.declared.reading.Due.{Due}
-use Rattle.message.specs.declared.reading.Progress.{Progress}
-use Rattle.message.specs.declared.records.Header.{Header}
-use Rattle.message.specs.declared.records.Interval.{Interval}
-use Rattle.message.specs.declared.records.SectionHead.{SectionHead}
-use Rattle.message.specs.declared.records.Record.{Record}
-use Rattle.message.specs.declared.records.Record.TheVariants as RecordKinds
+use Rattle.message.specs.declared.reader_fault.UnplacedFault.{UnplacedFault}
+use Rattle.message.specs.declared.reader_fault.UnplacedFault.TheVariants.{Foreign, Broken}
+use Rattle.message.specs.declared.due.Due.{Due}
+use Rattle.message.specs.declared.progress.Progress.{Progress}
+use Rattle.message.specs.declared.record.Header.{Header}
+use Rattle.message.specs.declared.record.Interval.{Interval}
+use Rattle.message.specs.declared.record.SectionHead.{SectionHead}
+use Rattle.message.specs.declared.record.Record.{Record}
+use Rattle.message.specs.declared.record.Record.TheVariants as RecordKinds
 use Rattle.message.specs.Progress.{admitted, after_action, after_header, after_interval, after_section, lawful_action, lawful_header, lawful_interval, lawful_section, named}
 use Rattle.message.specs.Reading.{onward}
 use Rattle.message.specs.Rules.{is_due}
@@ -49,7 +49,7 @@ module _ (kind : Meaning) (setup : Setup) where
   pub first_on : (p e : Progress) (r : Record) (rs : List Record) → fold (onward kind setup) (Some p) (r ∷ rs) ≡ Some e → First p e r rs
   first_on p e r rs h = by_cases (is_due p.due r) refl (admitted kind setup p r) refl h
     where
-      by_cases : (b : Bool) → is_due p.due r ≡ b → (v : Result Progress Flaw) → admitted kind setup p r ≡ v → fold (onward kind setup) (cond b (result_ok v) None) rs ≡ Some e → First p e r rs
+      by_cases : (b : Bool) → is_due p.due r ≡ b → (v : Result Progress UnplacedFault) → admitted kind setup p r ≡ v → fold (onward kind setup) (cond b (result_ok v) None) rs ≡ Some e → First p e r rs
       by_cases true is (Ok q) so h = record { next = q; was_due = is; passes = so; onto = h }
       by_cases true is (Err f) so h = absurd (not_none e (sym (stuck rs) ∙ h))
       by_cases false is v so h = absurd (not_none e (sym (stuck rs) ∙ h))

@@ -2,13 +2,13 @@
 use Rattle.std.proofs.Common.{◌≡◌, ℕ, ◌+◌, List, [], ◌∷◌, length, drop, Some, None, Ok, Err, fold, Option, Result, sym, refl, ap, ◌∙◌}
 use Rattle.std.specs.List.{flat_map, AllByRecursion}
 use Rattle.std.proofs.lemmas.List.{drop_at, drop-drop}
-use Rattle.action.specs.declared.setups.Setup.{Setup}
+use Rattle.action.specs.declared.setup.Setup.{Setup}
 use Rattle.kind.specs.Meaning.{Meaning}
-use Rattle.message.specs.declared.faults.ReaderFault.{ReaderFault}
-use Rattle.message.specs.declared.reading.Due.TheVariants as Due
-use Rattle.message.specs.declared.reading.Found.{Found}
-use Rattle.message.specs.declared.reading.Progress.{Progress}
-use Rattle.message.specs.declared.records.Record.{Record}
+use Rattle.message.specs.declared.reader_fault.ReaderFault.{ReaderFault}
+use Rattle.message.specs.declared.due.Due.TheVariants as Due
+use Rattle.message.specs.declared.records.FoundRecord.{FoundRecord}
+use Rattle.message.specs.declared.progress.Progress.{Progress}
+use Rattle.message.specs.declared.record.Record.{Record}
 use Rattle.message.specs.Decoding.{decoded}
 use Rattle.message.specs.Fields.{Fitting}
 use Rattle.message.specs.Format.{Message, carried, record_bytes, records, told_intervals}
@@ -43,7 +43,7 @@ module _ (bytes : List ℕ) (m : Message) (is : IsMessage bytes m) where
 
 module _ (kind : Meaning) (setup : Setup) (bytes : List ℕ) where
   -- where a step finds a record, a call gives that record and leads on from it
-  next_record : (p q s : Progress) (at to : ℕ) (r : Record) (answer : Result (Option Found) ReaderFault) → step kind setup p at (drop at bytes) ≡ Ok (Some (r, s)) → Next kind setup p at bytes answer q to → (answer ≡ Ok (Some (record { offset = at; «record» = r }))) × (q ≡ s) × (to ≡ at + length (record_bytes r))
+  next_record : (p q s : Progress) (at to : ℕ) (r : Record) (answer : Result (Option FoundRecord) ReaderFault) → step kind setup p at (drop at bytes) ≡ Ok (Some (r, s)) → Next kind setup p at bytes answer q to → (answer ≡ Ok (Some (record { offset = at; «record» = r }))) × (q ≡ s) × (to ≡ at + length (record_bytes r))
   next_record p q s at to r (Ok None) so h = let e : ◌≡◌ {A = Step} (Ok None) (Ok (Some (r, s))) = sym h.0 ∙ so in cc
   next_record p q s at to r (Ok (Some f)) so h =
       let e : ◌≡◌ {A = Step} (Ok (Some (f.«record», q))) (Ok (Some (r, s))) = sym h.0 ∙ so in
@@ -53,7 +53,7 @@ module _ (kind : Meaning) (setup : Setup) (bytes : List ℕ) where
   next_record p q s at to r (Err e) so h = let e : ◌≡◌ {A = Step} (Err e) (Ok (Some (r, s))) = sym h.0 ∙ so in cc
 
   -- where it finds the end, a call gives the end and stays
-  next_end : (p q : Progress) (at to : ℕ) (answer : Result (Option Found) ReaderFault) → step kind setup p at (drop at bytes) ≡ Ok None → Next kind setup p at bytes answer q to → (answer ≡ Ok None) × (q ≡ p) × (to ≡ at)
+  next_end : (p q : Progress) (at to : ℕ) (answer : Result (Option FoundRecord) ReaderFault) → step kind setup p at (drop at bytes) ≡ Ok None → Next kind setup p at bytes answer q to → (answer ≡ Ok None) × (q ≡ p) × (to ≡ at)
   next_end p q at to (Ok None) so h = (refl, h.1, h.2)
   next_end p q at to (Ok (Some f)) so h = let e : ◌≡◌ {A = Step} (Ok (Some (f.«record», q))) (Ok None) = sym h.0 ∙ so in cc
   next_end p q at to (Err e) so h = let e : ◌≡◌ {A = Step} (Err e) (Ok None) = sym h.0 ∙ so in cc

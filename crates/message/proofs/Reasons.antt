@@ -1,15 +1,15 @@
 -- Why reading stops at bytes, by how far it had come. Assumes nothing.
 use Rattle.std.proofs.Common.{◌≡◌, ℕ, ◌≤◌, true, false, List, length, Some, None}
-use Rattle.action.specs.declared.refusals.Refusal.{Refusal}
-use Rattle.action.specs.declared.setups.Setup.{Setup}
+use Rattle.action.specs.declared.refusal.Refusal.{Refusal}
+use Rattle.action.specs.declared.setup.Setup.{Setup}
 use Rattle.action.specs.Lawful.{by_reader}
 use Rattle.kind.specs.Meaning.{Meaning}
-use Rattle.message.specs.declared.faults.ReaderFault.{ReaderFault}
-use Rattle.message.specs.declared.reading.Due.TheVariants as Due
-use Rattle.message.specs.declared.reading.Progress.{Progress}
-use Rattle.message.specs.declared.records.Header.{Header}
-use Rattle.message.specs.declared.records.Record.{Record}
-use Rattle.message.specs.declared.records.Record.TheVariants as RecordKinds
+use Rattle.message.specs.declared.reader_fault.ReaderFault.{ReaderFault}
+use Rattle.message.specs.declared.due.Due.TheVariants as Due
+use Rattle.message.specs.declared.progress.Progress.{Progress}
+use Rattle.message.specs.declared.record.Header.{Header}
+use Rattle.message.specs.declared.record.Record.{Record}
+use Rattle.message.specs.declared.record.Record.TheVariants as RecordKinds
 use Rattle.message.specs.Checks.{StartsWith, offset}
 use Rattle.message.specs.Faults.{shown}
 use Rattle.message.specs.Fields.{Fitting}

@@ -6,9 +6,9 @@ use Rattle.std.proofs.lemmas.List.{drop_more}
 use Rattle.std.proofs.lemmas.Int.{of_z-to_z}
 use Rattle.std.proofs.lemmas.Bool.{and_parts, eqb-true, leb-true}
 use Rattle.action.specs.Bytes.{action_bytes, action_of, bytes_of, number4}
-use Rattle.message.specs.declared.faults.Flaw.TheVariants.{Cut, Trailing}
-use Rattle.message.specs.declared.reading.Due.{Due}
-use Rattle.message.specs.declared.records.Record.{Record}
+use Rattle.message.specs.declared.reader_fault.UnplacedFault.TheVariants.{Cut, Trailing}
+use Rattle.message.specs.declared.due.Due.{Due}
+use Rattle.message.specs.declared.record.Record.{Record}
 use Rattle.message.specs.Decoding.{begins, decoded, header_in, interval_in, number2, section_in}
 use Rattle.message.specs.Fields.{ActionFits, Fitting, HeaderFits, IntervalFits, SectionFits}
 use Rattle.message.specs.Format.{header_bytes, interval_bytes, record_bytes, section_bytes}

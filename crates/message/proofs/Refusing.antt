@@ -3,16 +3,16 @@ use Rattle.std.proofs.Common.{◌≡◌, ℕ, ◌<◌, ◌≤◌, Bool, true, fa
 use Rattle.std.specs.Result.{result_ok}
 use Rattle.std.proofs.lemmas.List.{nil_from_length}
 use Rattle.std.proofs.lemmas.Bool.{eqb-false, eqb-true, false≢true}
-use Rattle.action.specs.declared.setups.Setup.{Setup}
+use Rattle.action.specs.declared.setup.Setup.{Setup}
 use Rattle.kind.specs.Meaning.{Meaning}
-use Rattle.message.specs.declared.faults.Flaw.{Flaw}
-use Rattle.message.specs.declared.faults.Flaw.TheVariants.{Cut, Foreign, Broken, Trailing}
-use Rattle.message.specs.declared.faults.ReaderFault.{ReaderFault}
-use Rattle.message.specs.declared.reading.Due.{Due}
-use Rattle.message.specs.declared.reading.Progress.{Progress}
-use Rattle.message.specs.declared.records.Header.{Header}
-use Rattle.message.specs.declared.records.Record.{Record}
-use Rattle.message.specs.declared.records.Record.TheVariants as RecordKinds
+use Rattle.message.specs.declared.reader_fault.UnplacedFault.{UnplacedFault}
+use Rattle.message.specs.declared.reader_fault.UnplacedFault.TheVariants.{Cut, Foreign, Broken, Trailing}
+use Rattle.message.specs.declared.reader_fault.ReaderFault.{ReaderFault}
+use Rattle.message.specs.declared.due.Due.{Due}
+use Rattle.message.specs.declared.progress.Progress.{Progress}
+use Rattle.message.specs.declared.record.Header.{Header}
+use Rattle.message.specs.declared.record.Record.{Record}
+use Rattle.message.specs.declared.record.Record.TheVariants as RecordKinds
 use Rattle.message.specs.Checks.{StartsWith}
 use Rattle.message.specs.Decoding.{decoded}
 use Rattle.message.specs.Faults.{fault_at, shown}
@@ -29,11 +29,11 @@ use Rattle.message.proofs.Recoding.{whole_back}
 -- WHAT IS DECODED
 
 -- what a test between a record, or the end, and a flaw tells
-flawed : (b : Bool) (o : Option Record) (f g : Flaw) → cond b (Ok o) (Err f) ≡ Err g → (b ≡ false) × (f ≡ g)
+flawed : (b : Bool) (o : Option Record) (f g : UnplacedFault) → cond b (Ok o) (Err f) ≡ Err g → (b ≡ false) × (f ≡ g)
 flawed true o f g h = cc
 flawed false o f g h = (refl, cc)
 
-flawless : (b : Bool) (o q : Option Record) (f : Flaw) → cond b (Ok o) (Err f) ≡ Ok q → (b ≡ true) × (o ≡ q)
+flawless : (b : Bool) (o q : Option Record) (f : UnplacedFault) → cond b (Ok o) (Err f) ≡ Ok q → (b ≡ true) × (o ≡ q)
 flawless true o q f h = (refl, cc)
 flawless false o q f h = cc
 
@@ -43,26 +43,26 @@ module _ (bs : List ℕ) where
   finished_told _ h = absurd (not_none _ (sym (flawless _ _ _ _ h).1))
 
   -- where a record is due, the flaw is that there is none; where the end is due, that bytes follow
-  pub flaw_told : (d : Due) (f : Flaw) → decoded d bs ≡ Err f → (Cut ≡ f) ⊎ ((Trailing ≡ f) × (d ≡ Due.End) × (1 ≤ length bs))
+  pub flaw_told : (d : Due) (f : UnplacedFault) → decoded d bs ≡ Err f → (Cut ≡ f) ⊎ ((Trailing ≡ f) × (d ≡ Due.End) × (1 ≤ length bs))
   flaw_told Due.End f h = let k = flawed _ _ _ _ h in let some : length bs ≡ 0 → ⊥ = eqb-false (length bs) 0 k.0 in inr (k.1, refl, omega arith)
   flaw_told _ f h = inl (flawed _ _ _ _ h).1
 
   pub cut_told : (d : Due) → decoded d bs ≡ Err Cut → (d ≡ Due.End → ⊥) × ((r : Record) → is_due d r ≡ true → Fitting r → StartsWith bs r → ⊥)
   cut_told d h = (
     λ is. let z : Trailing ≡ Cut = (flawed _ _ _ _ (ap (λ x. decoded x bs) (sym is) ∙ h)).1 in cc,
-    λ r was fits s. let z : ◌≡◌ {A = Result (Option Record) Flaw} (Ok (Some r)) (Err Cut) = sym (decoded_format s.0 d r was fits) ∙ ap (decoded d) (sym s.1) ∙ h in cc,
+    λ r was fits s. let z : ◌≡◌ {A = Result (Option Record) UnplacedFault} (Ok (Some r)) (Err Cut) = sym (decoded_format s.0 d r was fits) ∙ ap (decoded d) (sym s.1) ∙ h in cc,
   )
 
 -- WHAT THE RULES SAY
 
 -- what the tests of a header tell
-header_flawed : (a b : Bool) (p : Progress) (f : Flaw) → cond a (cond b (Ok p) (Err Broken)) (Err Foreign) ≡ Err f → ((a ≡ false) × (Foreign ≡ f)) ⊎ ((a ≡ true) × (Broken ≡ f))
+header_flawed : (a b : Bool) (p : Progress) (f : UnplacedFault) → cond a (cond b (Ok p) (Err Broken)) (Err Foreign) ≡ Err f → ((a ≡ false) × (Foreign ≡ f)) ⊎ ((a ≡ true) × (Broken ≡ f))
 header_flawed true true p f h = cc
 header_flawed true false p f h = inr (refl, cc)
 header_flawed false b p f h = inl (refl, cc)
 
 -- and the test of any other record
-other_flawed : (b : Bool) (p : Progress) (f : Flaw) → cond b (Ok p) (Err Broken) ≡ Err f → Broken ≡ f
+other_flawed : (b : Bool) (p : Progress) (f : UnplacedFault) → cond b (Ok p) (Err Broken) ≡ Err f → Broken ≡ f
 other_flawed true p f h = cc
 other_flawed false p f h = cc
 
@@ -73,7 +73,7 @@ header_due _ h is = absurd (false≢true is)
 module _ (kind : Meaning) (setup : Setup) where
   module _ (p : Progress) where
     -- a refused record is a header of another group or kind, or it breaks a rule and is no such header
-    refused_told : (r : Record) (f : Flaw) → is_due p.due r ≡ true → admitted kind setup p r ≡ Err f → ((Foreign ≡ f) × ((h : Header) × (r ≡ RecordKinds.Header h) × (p.due ≡ Due.Header) × (named kind setup h ≡ false))) ⊎ ((Broken ≡ f) × ((h : Header) → r ≡ RecordKinds.Header h → named kind setup h ≡ true))
+    refused_told : (r : Record) (f : UnplacedFault) → is_due p.due r ≡ true → admitted kind setup p r ≡ Err f → ((Foreign ≡ f) × ((h : Header) × (r ≡ RecordKinds.Header h) × (p.due ≡ Due.Header) × (named kind setup h ≡ false))) ⊎ ((Broken ≡ f) × ((h : Header) → r ≡ RecordKinds.Header h → named kind setup h ≡ true))
     refused_told (RecordKinds.Header h) f is so =
         ⊎_elim
         (λ k. inl (k.1, (h, refl, header_due p.due h is, k.0)))
@@ -85,10 +85,10 @@ module _ (kind : Meaning) (setup : Setup) where
     pub reason : (at : ℕ) (rest : List ℕ) (why : ReaderFault) → ((i : ℕ) → get_or rest i 0 < 256) → step kind setup p at rest ≡ Err why → ReasonAt kind setup p at rest (shown why)
     reason at rest why bytes h = by_decoded (decoded p.due rest) refl h
       where
-        why_is : (f g : Flaw) → f ≡ g → ◌≡◌ {A = Step} (Err (fault_at at g)) (Err why) → shown why ≡ shown (fault_at at f)
+        why_is : (f g : UnplacedFault) → f ≡ g → ◌≡◌ {A = Step} (Err (fault_at at g)) (Err why) → shown why ≡ shown (fault_at at f)
         why_is f g is e = let same : why ≡ fault_at at g = cc in ap shown (same ∙ ap (fault_at at) (sym is))
 
-        by_verdict : (r : Record) → decoded p.due rest ≡ Ok (Some r) → (v : Result Progress Flaw) → admitted kind setup p r ≡ v → judged at r v ≡ Err why → ReasonAt kind setup p at rest (shown why)
+        by_verdict : (r : Record) → decoded p.due rest ≡ Ok (Some r) → (v : Result Progress UnplacedFault) → admitted kind setup p r ≡ v → judged at r v ≡ Err why → ReasonAt kind setup p at rest (shown why)
         by_verdict r is (Ok q) so e = cc
         by_verdict r is (Err f) so e =
             let back = whole_back rest bytes p.due r is in
@@ -97,7 +97,7 @@ module _ (kind : Meaning) (setup : Setup) where
             (λ k. broken_at (record { is = why_is Broken f k.0 e; breaks = r; was_due = back.0; fitting = back.1; starts = (drop (length (record_bytes r)) rest, back.2); ours = k.1; stops = ap (λ b. cond b (result_ok (admitted kind setup p r)) None) back.0 ∙ ap result_ok so }))
             (refused_told r f back.0 so)
 
-        by_decoded : (d : Result (Option Record) Flaw) → decoded p.due rest ≡ d → stepped kind setup p at d ≡ Err why → ReasonAt kind setup p at rest (shown why)
+        by_decoded : (d : Result (Option Record) UnplacedFault) → decoded p.due rest ≡ d → stepped kind setup p at d ≡ Err why → ReasonAt kind setup p at rest (shown why)
         by_decoded (Ok (Some r)) is e = by_verdict r is (admitted kind setup p r) refl e
         by_decoded (Ok None) is e = cc
         by_decoded (Err f) is e =
@@ -110,11 +110,11 @@ module _ (kind : Meaning) (setup : Setup) where
     pub ended_told : (at : ℕ) (rest : List ℕ) → step kind setup p at rest ≡ Ok None → (p.due ≡ Due.End) × (rest ≡ [])
     ended_told at rest h = finished_told rest p.due (by_decoded (decoded p.due rest) h)
       where
-        by_verdict : (r : Record) (v : Result Progress Flaw) → judged at r v ≡ Ok None → (◌≡◌ {A = Result (Option Record) Flaw} (Ok (Some r)) (Ok None))
+        by_verdict : (r : Record) (v : Result Progress UnplacedFault) → judged at r v ≡ Ok None → (◌≡◌ {A = Result (Option Record) UnplacedFault} (Ok (Some r)) (Ok None))
         by_verdict r (Ok q) e = cc
         by_verdict r (Err f) e = cc
 
-        by_decoded : (d : Result (Option Record) Flaw) → stepped kind setup p at d ≡ Ok None → d ≡ Ok None
+        by_decoded : (d : Result (Option Record) UnplacedFault) → stepped kind setup p at d ≡ Ok None → d ≡ Ok None
         by_decoded (Ok (Some r)) e = by_verdict r (admitted kind setup p r) e
         by_decoded (Ok None) e = refl
         by_decoded (Err f) e = cc

@@ -3,12 +3,12 @@ use Rattle.std.proofs.Common.{◌≡◌, ◌≤◌, List, [], ◌∷◌, ◌++�
 use Rattle.std.specs.List.{flat_map, AllByRecursion}
 use Rattle.std.proofs.ByRecursion.{All-append, all-has, All-map, All-weaker}
 use Rattle.std.proofs.lemmas.List.{append_assoc, length-map}
-use Rattle.action.specs.declared.orders.Action.{Action}
-use Rattle.action.specs.declared.setups.Setup.{Setup}
+use Rattle.action.specs.declared.action.Action.{Action}
+use Rattle.action.specs.declared.setup.Setup.{Setup}
 use Rattle.kind.specs.Meaning.{Meaning}
-use Rattle.message.specs.declared.records.Interval.{Interval}
-use Rattle.message.specs.declared.records.Record.{Record}
-use Rattle.message.specs.declared.records.Record.TheVariants as RecordKinds
+use Rattle.message.specs.declared.record.Interval.{Interval}
+use Rattle.message.specs.declared.record.Record.{Record}
+use Rattle.message.specs.declared.record.Record.TheVariants as RecordKinds
 use Rattle.message.specs.Fields.{ActionFits, Fitting, HeaderFits, IntervalFits, SectionFits}
 use Rattle.message.specs.Format.{Message, Section, head_of, header_of, records, section_records}
 use Rattle.message.specs.Lawful.{LawfulAction, LawfulInterval, LawfulMessage, LawfulSection}

@@ -2,17 +2,17 @@
 use Rattle.std.proofs.Common.{◌≡◌, Ok, Err, ℕ, ◌≤◌, true, cond, ◌&&◌, eqb, ltb, leb, List, [], ◌∷◌, get_or, sym, refl, ap, ◌∙◌}
 use Rattle.std.specs.List.{AllByRecursion}
 use Rattle.std.proofs.lemmas.Bool.{and_from, and_parts, cond-true, eq-eqb, eqb-true, le-leb, leb-true, lt-ltb}
-use Rattle.action.specs.declared.orders.Action.{Action}
-use Rattle.action.specs.declared.setups.Setup.{Setup}
+use Rattle.action.specs.declared.action.Action.{Action}
+use Rattle.action.specs.declared.setup.Setup.{Setup}
 use Rattle.action.specs.Order.{Ascending, Leads, precedes}
 use Rattle.action.proofs.Sequence.{leads_through}
 use Rattle.kind.specs.Meaning.{Meaning}
 use Rattle.kind.specs.Working.{knows_action}
-use Rattle.message.specs.declared.reading.Due.{Due}
-use Rattle.message.specs.declared.reading.Progress.{Progress}
-use Rattle.message.specs.declared.reading.Span.{Span}
-use Rattle.message.specs.declared.faults.Flaw.TheVariants.{Broken}
-use Rattle.message.specs.declared.records.Record.TheVariants as RecordKinds
+use Rattle.message.specs.declared.due.Due.{Due}
+use Rattle.message.specs.declared.progress.Progress.{Progress}
+use Rattle.message.specs.declared.progress.TimeSpan.{TimeSpan}
+use Rattle.message.specs.declared.reader_fault.UnplacedFault.TheVariants.{Broken}
+use Rattle.message.specs.declared.record.Record.TheVariants as RecordKinds
 use Rattle.message.specs.Progress.{after_action, carries, due_after, lawful_action, no_span}
 use Rattle.message.specs.Rules.{is_due}
 use Rattle.message.proofs.Onward.{action_on}
@@ -41,7 +41,7 @@ module _ (kind : Meaning) (setup : Setup) where
 -- THE TESTS
 
 -- what the test of an action asks, apart from the order
-pub record Fair (kind : Meaning) (article : ℕ) (spans : List Span) (x : Action) : Type 0 where
+pub record Fair (kind : Meaning) (article : ℕ) (spans : List TimeSpan) (x : Action) : Type 0 where
   pub on_article : x.article ≡ article
   pub in_span : carries (get_or spans x.coordinator no_span) x.time ≡ true
   pub begun : 1 ≤ x.transaction

@@ -4,15 +4,15 @@ use Rattle.std.specs.List.{ContainsAt as Has, AllByRecursion}
 use Rattle.std.proofs.ByRecursion.{All-map, All-weaker}
 use Rattle.std.proofs.lemmas.List.{get_or-set_other, get_or-set_same, length-set, set_past}
 use Rattle.std.proofs.lemmas.Bool.{and_from, and_parts, cases_eq, cases_lt, cond-true, le-leb, leb-true, lt-ltb, ltb-true}
-use Rattle.action.specs.declared.setups.Setup.{Setup}
+use Rattle.action.specs.declared.setup.Setup.{Setup}
 use Rattle.action.proofs.Members.{has_first, has_later}
 use Rattle.kind.specs.Meaning.{Meaning}
-use Rattle.message.specs.declared.reading.Due.{Due}
-use Rattle.message.specs.declared.reading.Progress.{Progress}
-use Rattle.message.specs.declared.reading.Span.{Span}
-use Rattle.message.specs.declared.faults.Flaw.TheVariants.{Broken}
-use Rattle.message.specs.declared.records.Interval.{Interval}
-use Rattle.message.specs.declared.records.Record.TheVariants as RecordKinds
+use Rattle.message.specs.declared.due.Due.{Due}
+use Rattle.message.specs.declared.progress.Progress.{Progress}
+use Rattle.message.specs.declared.progress.TimeSpan.{TimeSpan}
+use Rattle.message.specs.declared.reader_fault.UnplacedFault.TheVariants.{Broken}
+use Rattle.message.specs.declared.record.Interval.{Interval}
+use Rattle.message.specs.declared.record.Record.TheVariants as RecordKinds
 use Rattle.message.specs.Lawful.{LawfulInterval, Rising}
 use Rattle.message.specs.Progress.{after_interval, carries, due_after, lawful_interval, no_span}
 use Rattle.message.specs.Rules.{is_due}
@@ -77,7 +77,7 @@ module _ (setup : Setup) where
 
 -- SPANS
 
-abbrev pub span_of : Interval → Span
+abbrev pub span_of : Interval → TimeSpan
 span_of i = record { from = i.from; to = i.to }
 
 module _ (c time : ℕ) where

@@ -5,13 +5,13 @@ use Rattle.std.specs.Result.{result_ok}
 use Rattle.std.proofs.ByRecursion.{All-push}
 use Rattle.std.proofs.lemmas.List.{append_assoc, drop-drop, get_or-drop, length-append}
 use Rattle.std.proofs.lemmas.List.Sums.{fold_push, sum_by_push}
-use Rattle.action.specs.declared.setups.Setup.{Setup}
+use Rattle.action.specs.declared.setup.Setup.{Setup}
 use Rattle.kind.specs.Meaning.{Meaning}
-use Rattle.message.specs.declared.faults.Flaw.{Flaw}
-use Rattle.message.specs.declared.reading.Found.{Found}
-use Rattle.message.specs.declared.reading.Progress.{Progress}
-use Rattle.message.specs.declared.records.Record.{Record}
-use Rattle.message.specs.declared.records.Record.TheVariants as RecordKinds
+use Rattle.message.specs.declared.reader_fault.UnplacedFault.{UnplacedFault}
+use Rattle.message.specs.declared.records.FoundRecord.{FoundRecord}
+use Rattle.message.specs.declared.progress.Progress.{Progress}
+use Rattle.message.specs.declared.record.Record.{Record}
+use Rattle.message.specs.declared.record.Record.TheVariants as RecordKinds
 use Rattle.message.specs.Decoding.{decoded}
 use Rattle.message.specs.Fields.{Fitting}
 use Rattle.message.specs.Format.{record_bytes}
@@ -23,10 +23,10 @@ use Rattle.message.proofs.Formats.{joined_push}
 use Rattle.message.proofs.Recoding.{whole_back}
 
 -- a step that found a record: it was decoded, and the rules passed it
-pub found_record : (kind : Meaning) (setup : Setup) (p q : Progress) (at : ℕ) (r : Record) (d : Result (Option Record) Flaw) → stepped kind setup p at d ≡ Ok (Some (r, q)) → (d ≡ Ok (Some r)) × (admitted kind setup p r ≡ Ok q)
+pub found_record : (kind : Meaning) (setup : Setup) (p q : Progress) (at : ℕ) (r : Record) (d : Result (Option Record) UnplacedFault) → stepped kind setup p at d ≡ Ok (Some (r, q)) → (d ≡ Ok (Some r)) × (admitted kind setup p r ≡ Ok q)
 found_record kind setup p q at r (Ok (Some x)) h = by_verdict (admitted kind setup p x) refl h
   where
-    by_verdict : (v : Result Progress Flaw) → admitted kind setup p x ≡ v → judged at x v ≡ Ok (Some (r, q)) → (◌≡◌ {A = Result (Option Record) Flaw} (Ok (Some x)) (Ok (Some r))) × (admitted kind setup p r ≡ Ok q)
+    by_verdict : (v : Result Progress UnplacedFault) → admitted kind setup p x ≡ v → judged at x v ≡ Ok (Some (r, q)) → (◌≡◌ {A = Result (Option Record) UnplacedFault} (Ok (Some x)) (Ok (Some r))) × (admitted kind setup p r ≡ Ok q)
     by_verdict (Ok s) is e =
         let both : ◌≡◌ {A = Record × Progress} (x, s) (r, q) = cc in
         let same : x ≡ r = ap (λ t. t.0) both in
@@ -63,14 +63,14 @@ module _ (kind : Meaning) (setup : Setup) (bytes : List ℕ) (fits : (i : ℕ) �
 
   -- the same of a reader, whose set-up and bytes are these
   module _ (setup₁ : Setup) (same_setup : setup₁ ≡ setup) (bytes₁ : List ℕ) (same_bytes : bytes₁ ≡ bytes) where
-    pub read_more : (at to : ℕ) (p q : Progress) (f : Found) (b : Begun kind setup bytes at p) → Next kind setup₁ p at bytes₁ (Ok (Some f)) q to → (c : Begun kind setup bytes to q) × (c.0 ≡ b.0 ++ (f.«record» ∷ []))
+    pub read_more : (at to : ℕ) (p q : Progress) (f : FoundRecord) (b : Begun kind setup bytes at p) → Next kind setup₁ p at bytes₁ (Ok (Some f)) q to → (c : Begun kind setup bytes to q) × (c.0 ≡ b.0 ++ (f.«record» ∷ []))
     read_more at to p q f b h =
         let here = (λ i. step kind (sym same_setup i) p at (drop at (sym same_bytes i))) ∙ h.0 in
         let more = begun_more at p q f.«record» b here in
         subst (λ (n : ℕ). (c : Begun kind setup bytes n q) × (c.0 ≡ b.0 ++ (f.«record» ∷ []))) (sym h.2) (more, refl)
 
     -- and of how many actions there were so far
-    pub count_more : (at to : ℕ) (p q : Progress) (f : Found) (n : ℕ) → (b : Begun kind setup bytes at p) × (n ≡ count_by is_action b.0) → Next kind setup₁ p at bytes₁ (Ok (Some f)) q to → (t : Bool) → t ≡ is_action f.«record» → (c : Begun kind setup bytes to q) × (cond t (n + 1) n ≡ count_by is_action c.0)
+    pub count_more : (at to : ℕ) (p q : Progress) (f : FoundRecord) (n : ℕ) → (b : Begun kind setup bytes at p) × (n ≡ count_by is_action b.0) → Next kind setup₁ p at bytes₁ (Ok (Some f)) q to → (t : Bool) → t ≡ is_action f.«record» → (c : Begun kind setup bytes to q) × (cond t (n + 1) n ≡ count_by is_action c.0)
     count_more at to p q f n (b, so) h t is =
         let more = read_more at to p q f b h in
         let one : count_by is_action more.0.0 ≡ count_by is_action b.0 + cond t 1 0 = ap (count_by is_action) more.1 ∙ sum_by_push (λ x. cond (is_action x) 1 0) b.0 f.«record» ∙ ap (λ u. count_by is_action b.0 + cond u 1 0) (sym is) in

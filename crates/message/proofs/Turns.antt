@@ -4,17 +4,17 @@ use Rattle.std.proofs.Common.{◌≡◌, ℕ, ◌-◌, ◌≤◌, true, cond, lt
 use Rattle.std.specs.Result.{result_ok}
 use Rattle.std.proofs.lemmas.List.{append_assoc, append-nil}
 use Rattle.std.proofs.lemmas.Bool.{cond-true, false≢true, false_from_ne_true, lt-ltb}
-use Rattle.action.specs.declared.refusals.Refusal.{Refusal}
-use Rattle.action.specs.declared.setups.Setup.{Setup}
+use Rattle.action.specs.declared.refusal.Refusal.{Refusal}
+use Rattle.action.specs.declared.setup.Setup.{Setup}
 use Rattle.kind.specs.Meaning.{Meaning}
-use Rattle.message.specs.declared.faults.Flaw.{Flaw}
-use Rattle.message.specs.declared.faults.Flaw.TheVariants.{Broken as BrokenFlaw, Foreign as ForeignFlaw}
-use Rattle.message.specs.declared.faults.ReaderFault.{ReaderFault}
-use Rattle.message.specs.declared.reading.Due.TheVariants as Due
-use Rattle.message.specs.declared.reading.Progress.{Progress}
-use Rattle.message.specs.declared.records.Header.{Header}
-use Rattle.message.specs.declared.records.Record.{Record}
-use Rattle.message.specs.declared.records.Record.TheVariants as RecordKinds
+use Rattle.message.specs.declared.reader_fault.UnplacedFault.{UnplacedFault}
+use Rattle.message.specs.declared.reader_fault.UnplacedFault.TheVariants.{Broken as BrokenFlaw, Foreign as ForeignFlaw}
+use Rattle.message.specs.declared.reader_fault.ReaderFault.{ReaderFault}
+use Rattle.message.specs.declared.due.Due.TheVariants as Due
+use Rattle.message.specs.declared.progress.Progress.{Progress}
+use Rattle.message.specs.declared.record.Header.{Header}
+use Rattle.message.specs.declared.record.Record.{Record}
+use Rattle.message.specs.declared.record.Record.TheVariants as RecordKinds
 use Rattle.message.specs.Checks.{Reason, Refused, broken, cut, foreign, offset, trailing}
 use Rattle.message.specs.Faults.{shown}
 use Rattle.message.specs.Progress.{admitted, after_action, after_header, after_interval, after_section, due_after, lawful_action, lawful_header, lawful_interval, lawful_section, named, start}
@@ -214,7 +214,7 @@ module _ (kind : Meaning) (setup : Setup) where
           stops = ap (λ u. cond u (result_ok (admitted kind setup p b.breaks)) None) is ∙ stops (admitted kind setup p b.breaks) refl;
         })
       where
-        stops : (v : Result Progress Flaw) → admitted kind setup p b.breaks ≡ v → result_ok v ≡ None
+        stops : (v : Result Progress UnplacedFault) → admitted kind setup p b.breaks ≡ v → result_ok v ≡ None
         stops (Ok q) so = absurd (b.broken (admitted_follows p q rs b.breaks t (is_due_now p rs b.breaks t b.was_due) so).0.keeps)
         stops (Err f) so = refl
     reason_found (trailing f) = trailing_at (record { is = f.is; ended = t.due ∙ f.ended; more = f.more })

@@ -2,11 +2,11 @@
 use Rattle.std.proofs.Common.{◌≡◌, ℕ, zero, suc, ◌+◌, ◌≤◌, List, [], ◌∷◌, ◌++◌, length, drop, Some, None, Option, sym, refl, ap, ◌∙◌, arith}
 use Rattle.std.specs.List.{flat_map, AllByRecursion}
 use Rattle.std.proofs.lemmas.List.{drop_at, drop-drop, length-drop, nil_from_length}
-use Rattle.action.specs.declared.setups.Setup.{Setup}
+use Rattle.action.specs.declared.setup.Setup.{Setup}
 use Rattle.kind.specs.Meaning.{Meaning}
-use Rattle.message.specs.declared.reading.Due.TheVariants as Due
-use Rattle.message.specs.declared.records.Record.{Record}
-use Rattle.message.specs.declared.records.Record.TheVariants as RecordKinds
+use Rattle.message.specs.declared.due.Due.TheVariants as Due
+use Rattle.message.specs.declared.record.Record.{Record}
+use Rattle.message.specs.declared.record.Record.TheVariants as RecordKinds
 use Rattle.message.specs.Decoding.{whole}
 use Rattle.message.specs.Fields.{Fitting}
 use Rattle.message.specs.Format.{Message, format, record_bytes, records}

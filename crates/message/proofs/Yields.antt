@@ -6,12 +6,12 @@ use Rattle.std.specs.Iterator.Runs.{YieldsInOrder}
 use Rattle.std.specs.List.{cons_option, find}
 use Rattle.std.specs.Option.{option_map}
 use Rattle.std.proofs.iter.runs.Sources.{as_is, from_front}
-use Rattle.message.specs.declared.reading.Stretch.{Stretch}
-use Rattle.message.specs.declared.records.Interval.{Interval}
-use Rattle.message.specs.declared.records.Record.{Record}
-use Rattle.message.specs.declared.records.Record.TheVariants as RecordKinds
+use Rattle.message.specs.declared.intervals.FoundInterval.{FoundInterval}
+use Rattle.message.specs.declared.record.Interval.{Interval}
+use Rattle.message.specs.declared.record.Record.{Record}
+use Rattle.message.specs.declared.record.Record.TheVariants as RecordKinds
 use Rattle.message.specs.Format.{record_bytes}
-use Rattle.message.specs.Found.{actions_among, first_place, found_from, placed, stretches_among, stretches_in, told}
+use Rattle.message.specs.Found.{actions_among, first_place, found_from, placed, found_intervals_among, found_intervals_in, told}
 use Rattle.message.specs.Walks.{actions_of, article_after, intervals_of, its_action, next_records, record_in, records_by, records_in}
 use Rattle.message.proofs.Walking.{records_from}
 
@@ -34,13 +34,13 @@ pub actions_placed : (at : ℕ) (rs : List Record) → actions_among (placed at 
 actions_placed at [] = refl
 actions_placed at (r ∷ rs) = ap (cons_option (its_action r)) (actions_placed (at + length (record_bytes r)) rs)
 
-pub told_placed : (at a : ℕ) (rs : List Record) → map told (stretches_among a (placed at rs)) ≡ intervals_of a rs
+pub told_placed : (at a : ℕ) (rs : List Record) → map told (found_intervals_among a (placed at rs)) ≡ intervals_of a rs
 told_placed at a [] = refl
 told_placed at a (RecordKinds.Interval i ∷ rs) = ap (λ is. (a, i) ∷ is) (told_placed (at + 10) a rs)
 told_placed at a (r ∷ rs) = told_placed (at + length (record_bytes r)) (article_after a r) rs
 
 -- the place that `find` over a message's intervals answers, in the form in which std's lemma on `find` says what it found
-pub first_in : (test : ℕ → Interval → Bool) (bytes : List ℕ) (r : Option Stretch) → option_map (λ s. s) r ≡ find (λ s. test s.article s.interval) (stretches_in bytes) → option_map (λ s. s.offset) r ≡ first_place test 0 0 (records_in bytes)
+pub first_in : (test : ℕ → Interval → Bool) (bytes : List ℕ) (r : Option FoundInterval) → option_map (λ s. s) r ≡ find (λ s. test s.article s.interval) (found_intervals_in bytes) → option_map (λ s. s.offset) r ≡ first_place test 0 0 (records_in bytes)
 first_in test bytes None e = ap (option_map (λ s. s.offset)) e
 first_in test bytes (Some s) e = ap (option_map (λ s. s.offset)) e
 
@@ -66,7 +66,7 @@ few_actions [] = omega arith
 few_actions (RecordKinds.Action _ ∷ rs) = omega (arith, few_actions rs)
 few_actions (_ ∷ rs) = omega (arith, few_actions rs)
 
-pub few_stretches : (at a : ℕ) (rs : List Record) → length (stretches_among a (placed at rs)) ≤ length rs
+pub few_stretches : (at a : ℕ) (rs : List Record) → length (found_intervals_among a (placed at rs)) ≤ length rs
 few_stretches at a [] = omega arith
 few_stretches at a (RecordKinds.Interval _ ∷ rs) = omega (arith, few_stretches (at + 10) a rs)
 few_stretches at a (r ∷ rs) = omega (arith, few_stretches (at + length (record_bytes r)) (article_after a r) rs)

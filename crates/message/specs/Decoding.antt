@@ -3,14 +3,14 @@ use Rattle.std.specs.Prelude.{ℕ, ◌+◌, ◌*◌, Bool, cond, ◌&&◌, List,
 use Rattle.std.specs.Option.{option_flatten}
 use Rattle.std.specs.Result.{result_ok}
 use Rattle.action.specs.Bytes.{action_of, number4}
-use Rattle.message.specs.declared.faults.Flaw.{Flaw}
-use Rattle.message.specs.declared.faults.Flaw.TheVariants.{Cut, Trailing}
-use Rattle.message.specs.declared.reading.Due.{Due}
-use Rattle.message.specs.declared.records.Header.{Header}
-use Rattle.message.specs.declared.records.Interval.{Interval}
-use Rattle.message.specs.declared.records.SectionHead.{SectionHead}
-use Rattle.message.specs.declared.records.Record.{Record}
-use Rattle.message.specs.declared.records.Record.TheVariants as RecordKinds
+use Rattle.message.specs.declared.reader_fault.UnplacedFault.{UnplacedFault}
+use Rattle.message.specs.declared.reader_fault.UnplacedFault.TheVariants.{Cut, Trailing}
+use Rattle.message.specs.declared.due.Due.{Due}
+use Rattle.message.specs.declared.record.Header.{Header}
+use Rattle.message.specs.declared.record.Interval.{Interval}
+use Rattle.message.specs.declared.record.SectionHead.{SectionHead}
+use Rattle.message.specs.declared.record.Record.{Record}
+use Rattle.message.specs.declared.record.Record.TheVariants as RecordKinds
 use Rattle.message.specs.Format.{record_bytes}
 
 -- the bytes begin with that kind byte, and are at least so many
@@ -30,7 +30,7 @@ abbrev pub interval_in : List ℕ → Interval
 interval_in bs = record { site = slice_index bs 1; from = number4 bs 2; to = number4 bs 6 }
 
 -- the record that is due, or the end; or it is cut off or of another kind, or bytes follow the end
-abbrev pub decoded : Due → List ℕ → Result (Option Record) Flaw
+abbrev pub decoded : Due → List ℕ → Result (Option Record) UnplacedFault
 decoded Due.Header bs = cond (begins 0x48 6 bs) (Ok (Some (RecordKinds.Header (header_in bs)))) (Err Cut)
 decoded Due.Section bs = cond (begins 0x53 5 bs) (Ok (Some (RecordKinds.Section (section_in bs)))) (Err Cut)
 decoded Due.Interval bs = cond (begins 0x49 10 bs) (Ok (Some (RecordKinds.Interval (interval_in bs)))) (Err Cut)
@@ -38,7 +38,7 @@ decoded Due.Action bs = cond (begins 0x41 16 bs) (Ok (Some (RecordKinds.Action (
 decoded Due.End bs = cond (length bs == 0) (Ok None) (Err Trailing)
 
 -- the record, where one was decoded
-abbrev pub whole : Result (Option Record) Flaw → Option Record
+abbrev pub whole : Result (Option Record) UnplacedFault → Option Record
 whole d = option_flatten (result_ok d)
 
 -- how many bytes the record takes, where there is one

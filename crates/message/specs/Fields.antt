@@ -1,12 +1,12 @@
 -- Which records their bytes can hold. Assumes nothing.
 use Rattle.std.specs.Prelude.{◌^◌, ◌<◌, FitsSigned}
 use Rattle.std.specs.Int.{w32}
-use Rattle.action.specs.declared.orders.Action.{Action}
-use Rattle.message.specs.declared.records.Header.{Header}
-use Rattle.message.specs.declared.records.Interval.{Interval}
-use Rattle.message.specs.declared.records.SectionHead.{SectionHead}
-use Rattle.message.specs.declared.records.Record.{Record}
-use Rattle.message.specs.declared.records.Record.TheVariants as RecordKinds
+use Rattle.action.specs.declared.action.Action.{Action}
+use Rattle.message.specs.declared.record.Header.{Header}
+use Rattle.message.specs.declared.record.Interval.{Interval}
+use Rattle.message.specs.declared.record.SectionHead.{SectionHead}
+use Rattle.message.specs.declared.record.Record.{Record}
+use Rattle.message.specs.declared.record.Record.TheVariants as RecordKinds
 
 pub record HeaderFits (h : Header) : Type 0 where
   pub group : h.group < 65536

@@ -2,12 +2,12 @@
 use Rattle.std.specs.Prelude.{◌≡◌, ℕ, ◌<◌, ◌≤◌, true, List, map, length, sum_by, FitsSigned}
 use Rattle.std.specs.Int.{w32}
 use Rattle.std.specs.List.{ContainsAt as Has, AllByRecursion}
-use Rattle.action.specs.declared.orders.Action.{Action}
-use Rattle.action.specs.declared.setups.Setup.{Setup}
+use Rattle.action.specs.declared.action.Action.{Action}
+use Rattle.action.specs.declared.setup.Setup.{Setup}
 use Rattle.action.specs.Order.{Ascending, Pairwise}
 use Rattle.kind.specs.Meaning.{Meaning}
 use Rattle.kind.specs.Working.{knows_action}
-use Rattle.message.specs.declared.records.Interval.{Interval}
+use Rattle.message.specs.declared.record.Interval.{Interval}
 use Rattle.message.specs.Format.{Message, Section}
 
 -- strictly ascending numbers

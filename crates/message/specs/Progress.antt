@@ -1,25 +1,25 @@
 -- What the reader keeps of the records that it has read, and how one more record moves it on. Assumes nothing.
 use Rattle.std.specs.Prelude.{◌≡◌, ℕ, ◌+◌, ◌-◌, Bool, cond, ◌&&◌, List, replicate, Ok, Err, Result, pos, ◌==◌, nat_le, nat_lt, slice_index_or, slice_set}
-use Rattle.action.specs.declared.orders.Action.{Action}
-use Rattle.action.specs.declared.setups.Setup.{Setup}
+use Rattle.action.specs.declared.action.Action.{Action}
+use Rattle.action.specs.declared.setup.Setup.{Setup}
 use Rattle.action.specs.Order.{precedes}
 use Rattle.kind.specs.Meaning.{Meaning}
 use Rattle.kind.specs.Working.{knows_action}
-use Rattle.message.specs.declared.faults.Flaw.{Flaw}
-use Rattle.message.specs.declared.faults.Flaw.TheVariants.{Foreign, Broken}
-use Rattle.message.specs.declared.reading.Due.{Due}
-use Rattle.message.specs.declared.reading.Progress.{Progress}
-use Rattle.message.specs.declared.reading.Span.{Span}
-use Rattle.message.specs.declared.records.Header.{Header}
-use Rattle.message.specs.declared.records.Interval.{Interval}
-use Rattle.message.specs.declared.records.SectionHead.{SectionHead}
-use Rattle.message.specs.declared.records.Record.{Record}
-use Rattle.message.specs.declared.records.Record.TheVariants as RecordKinds
+use Rattle.message.specs.declared.reader_fault.UnplacedFault.{UnplacedFault}
+use Rattle.message.specs.declared.reader_fault.UnplacedFault.TheVariants.{Foreign, Broken}
+use Rattle.message.specs.declared.due.Due.{Due}
+use Rattle.message.specs.declared.progress.Progress.{Progress}
+use Rattle.message.specs.declared.progress.TimeSpan.{TimeSpan}
+use Rattle.message.specs.declared.record.Header.{Header}
+use Rattle.message.specs.declared.record.Interval.{Interval}
+use Rattle.message.specs.declared.record.SectionHead.{SectionHead}
+use Rattle.message.specs.declared.record.Record.{Record}
+use Rattle.message.specs.declared.record.Record.TheVariants as RecordKinds
 
-abbrev pub no_span : Span
+abbrev pub no_span : TimeSpan
 no_span = record { from = 0; to = 0 }
 
-abbrev pub no_spans : List Span
+abbrev pub no_spans : List TimeSpan
 no_spans = replicate 8 no_span
 
 -- stands before the first action of a section
@@ -95,7 +95,7 @@ after_interval p i = record {
 
 -- ACTION
 
-abbrev pub carries : Span → ℕ → Bool
+abbrev pub carries : TimeSpan → ℕ → Bool
 carries s time = nat_lt s.from time && nat_le time s.to
 
 abbrev pub lawful_action : Meaning → Progress → Action → Bool
@@ -118,13 +118,13 @@ after_action p x = record {
 -- ANY RECORD
 
 -- a record after those before it: it leads on, or names another group or kind, or breaks a rule
-abbrev pub admitted : Meaning → Setup → Progress → Record → Result Progress Flaw
+abbrev pub admitted : Meaning → Setup → Progress → Record → Result Progress UnplacedFault
 admitted kind setup p (RecordKinds.Header h) = cond (named kind setup h) (cond (lawful_header setup h) (Ok (after_header p h)) (Err Broken)) (Err Foreign)
 admitted kind setup p (RecordKinds.Section s) = cond (lawful_section setup p s) (Ok (after_section p s)) (Err Broken)
 admitted kind setup p (RecordKinds.Interval i) = cond (lawful_interval setup p i) (Ok (after_interval p i)) (Err Broken)
 admitted kind setup p (RecordKinds.Action x) = cond (lawful_action kind p x) (Ok (after_action p x)) (Err Broken)
 
 -- going on by a record: to the progress after it, or nowhere, with the flaw
-abbrev pub Admits : Meaning → Setup → Progress → Record → Result (Unit {0}) Flaw → Progress → Type 0
+abbrev pub Admits : Meaning → Setup → Progress → Record → Result (Unit {0}) UnplacedFault → Progress → Type 0
 Admits kind setup p r (Ok _) q = admitted kind setup p r ≡ Ok q
 Admits kind setup p r (Err f) q = (admitted kind setup p r ≡ Err f) × (q ≡ p)

@@ -1,10 +1,10 @@
 -- What is written reads back as the same. Assumes nothing.
 use Rattle.std.specs.Prelude.{◌≡◌, ℕ, ◌≤◌, List, [], ◌∷◌, Some, None, Ok, Option, Result}
-use Rattle.action.specs.declared.setups.Setup.{Setup}
+use Rattle.action.specs.declared.setup.Setup.{Setup}
 use Rattle.kind.specs.Meaning.{Meaning}
-use Rattle.message.specs.declared.faults.ReaderFault.{ReaderFault}
-use Rattle.message.specs.declared.reading.Found.{Found}
-use Rattle.message.specs.declared.reading.Progress.{Progress}
+use Rattle.message.specs.declared.reader_fault.ReaderFault.{ReaderFault}
+use Rattle.message.specs.declared.records.FoundRecord.{FoundRecord}
+use Rattle.message.specs.declared.progress.Progress.{Progress}
 use Rattle.message.specs.Format.{Message, format}
 use Rattle.message.specs.Lawful.{LawfulMessage}
 use Rattle.message.specs.Reading.{Next}
@@ -21,12 +21,12 @@ abbrev pub IsMessage : List ℕ → Message → Type 0
 IsMessage bytes m = (kind : Meaning) × (setup : Setup) × IsMessageFor kind setup bytes m
 
 -- a call of `next` from progress p and place at gives just this answer, and leads to progress q and place to
-pub record GivesOnly (kind : Meaning) (setup : Setup) (bytes : List ℕ) (p : Progress) (at : ℕ) (answer : Result (Option Found) ReaderFault) (q : Progress) (to : ℕ) : Type 0 where
+pub record GivesOnly (kind : Meaning) (setup : Setup) (bytes : List ℕ) (p : Progress) (at : ℕ) (answer : Result (Option FoundRecord) ReaderFault) (q : Progress) (to : ℕ) : Type 0 where
   pub gives : Next kind setup p at bytes answer q to
-  pub only : (other : Result (Option Found) ReaderFault) (r : Progress) (place : ℕ) → Next kind setup p at bytes other r place → (other ≡ answer) × (r ≡ q) × (place ≡ to)
+  pub only : (other : Result (Option FoundRecord) ReaderFault) (r : Progress) (place : ℕ) → Next kind setup p at bytes other r place → (other ≡ answer) × (r ≡ q) × (place ≡ to)
 
 -- calls of `next` one after another give just these records, and then the end, at which the reader stays
-abbrev pub ReadsJust : Meaning → Setup → List ℕ → Progress → ℕ → List Found → Type 0
+abbrev pub ReadsJust : Meaning → Setup → List ℕ → Progress → ℕ → List FoundRecord → Type 0
 ReadsJust kind setup bytes p at [] = GivesOnly kind setup bytes p at (Ok None) p at
 ReadsJust kind setup bytes p at (f ∷ fs) =
     (q : Progress) × (to : ℕ) × GivesOnly kind setup bytes p at (Ok (Some f)) q to × ReadsJust kind setup bytes q to fs

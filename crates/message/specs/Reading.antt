@@ -2,13 +2,13 @@
 use Rattle.std.specs.Prelude.{◌≡◌, ℕ, ◌+◌, Bool, cond, List, length, drop, Some, None, Ok, Err, fold, Option, Result}
 use Rattle.std.specs.Option.{is_some}
 use Rattle.std.specs.Result.{result_ok}
-use Rattle.action.specs.declared.setups.Setup.{Setup}
+use Rattle.action.specs.declared.setup.Setup.{Setup}
 use Rattle.kind.specs.Meaning.{Meaning}
-use Rattle.message.specs.declared.faults.Flaw.{Flaw}
-use Rattle.message.specs.declared.faults.ReaderFault.{ReaderFault}
-use Rattle.message.specs.declared.reading.Found.{Found}
-use Rattle.message.specs.declared.reading.Progress.{Progress}
-use Rattle.message.specs.declared.records.Record.{Record}
+use Rattle.message.specs.declared.reader_fault.UnplacedFault.{UnplacedFault}
+use Rattle.message.specs.declared.reader_fault.ReaderFault.{ReaderFault}
+use Rattle.message.specs.declared.records.FoundRecord.{FoundRecord}
+use Rattle.message.specs.declared.progress.Progress.{Progress}
+use Rattle.message.specs.declared.record.Record.{Record}
 use Rattle.message.specs.Decoding.{decoded}
 use Rattle.message.specs.Faults.{fault_at}
 use Rattle.message.specs.Format.{record_bytes}
@@ -20,11 +20,11 @@ use Rattle.message.specs.Walks.{its_action}
 abbrev pub Step : Type 0
 Step = Result (Option (Record × Progress)) ReaderFault
 
-abbrev pub judged : ℕ → Record → Result Progress Flaw → Step
+abbrev pub judged : ℕ → Record → Result Progress UnplacedFault → Step
 judged at r (Ok p) = Ok (Some (r, p))
 judged at r (Err f) = Err (fault_at at f)
 
-abbrev pub stepped : Meaning → Setup → Progress → ℕ → Result (Option Record) Flaw → Step
+abbrev pub stepped : Meaning → Setup → Progress → ℕ → Result (Option Record) UnplacedFault → Step
 stepped kind setup p at (Ok (Some r)) = judged at r (admitted kind setup p r)
 stepped kind setup p at (Ok None) = Ok None
 stepped kind setup p at (Err f) = Err (fault_at at f)
@@ -33,7 +33,7 @@ abbrev pub step : Meaning → Setup → Progress → ℕ → List ℕ → Step
 step kind setup p at rest = stepped kind setup p at (decoded p.due rest)
 
 -- what one call of the reader answers, and where it then stands
-abbrev pub Next : Meaning → Setup → Progress → ℕ → List ℕ → Result (Option Found) ReaderFault → Progress → ℕ → Type 0
+abbrev pub Next : Meaning → Setup → Progress → ℕ → List ℕ → Result (Option FoundRecord) ReaderFault → Progress → ℕ → Type 0
 Next kind setup p at bytes (Ok None) q to = (step kind setup p at (drop at bytes) ≡ Ok None) × (q ≡ p) × (to ≡ at)
 Next kind setup p at bytes (Ok (Some f)) q to =
     (step kind setup p at (drop at bytes) ≡ Ok (Some (f.«record», q))) × (f.offset ≡ at) × (to ≡ at + length (record_bytes f.«record»))

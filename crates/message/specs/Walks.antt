@@ -1,11 +1,11 @@
 -- The records that bytes hold one after another, and what they say. Assumes nothing.
 use Rattle.std.specs.Prelude.{ℕ, zero, suc, cond, List, [], ◌∷◌, length, drop, Some, None, Option, ◌==◌, slice_index}
 use Rattle.std.specs.List.{filter_map}
-use Rattle.action.specs.declared.orders.Action.{Action}
-use Rattle.message.specs.declared.reading.Due.{Due}
-use Rattle.message.specs.declared.records.Interval.{Interval}
-use Rattle.message.specs.declared.records.Record.{Record}
-use Rattle.message.specs.declared.records.Record.TheVariants as RecordKinds
+use Rattle.action.specs.declared.action.Action.{Action}
+use Rattle.message.specs.declared.due.Due.{Due}
+use Rattle.message.specs.declared.record.Interval.{Interval}
+use Rattle.message.specs.declared.record.Record.{Record}
+use Rattle.message.specs.declared.record.Record.TheVariants as RecordKinds
 use Rattle.message.specs.Decoding.{decoded, whole}
 use Rattle.message.specs.Format.{record_bytes}
 

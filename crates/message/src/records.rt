@@ -1,36 +1,105 @@
-use action::Action;
+ghost use Rattle.std.specs.Prelude.{◌≡◌, ◌+◌, ◌≤◌, length, drop, List};
+ghost use Rattle.std.specs.Iterator.{YieldsFirst, item_count};
+ghost use Rattle.std.specs.Iterator.Runs.{YieldsInOrder};
+ghost use Rattle.message.specs.Decoding.{size_of};
+ghost use Rattle.message.specs.Format.{Message, records};
+ghost use Rattle.message.specs.ReadBack.{IsMessage};
+ghost use Rattle.message.specs.Walks.{its_sender, record_in};
+ghost use Rattle.message.specs.declared.records.FoundRecord.{FoundRecord};
+ghost use Rattle.message.specs.Found.{found_from, found_in, placed};
 
-// A message begins with one header, which says how many sections follow.
-#[derive(Clone, Copy, Debug, PartialEq, Eq)]
-pub struct Header {
-    pub group: u16,
-    // By its number, since anyone may add a kind.
-    pub kind: u8,
-    pub sender: u8,
-    pub sections: u8,
+use crate::due::{Due, decode};
+use crate::record::Record;
+use std::marker::Model;
+
+/// A record that was read, and the offset in the message at which it begins.
+#[derive(Clone, Copy)]
+pub struct FoundRecord {
+    pub offset: usize,
+    pub record: Record,
 }
 
-// A section is about one article. Its head says how many intervals and then actions follow.
-#[derive(Clone, Copy, Debug, PartialEq, Eq)]
-pub struct SectionHead {
-    pub article: u8,
-    pub intervals: u8,
-    pub actions: u16,
+// The record that begins at an offset of the bytes, whatever its kind; `None` where none does.
+#[inline(always)]
+pub(crate) fn record_at(bytes: &[u8], at: usize) -> Option<Record>
+    ensures value { result ≡ record_in (drop at bytes.now) }
+    ensures fits { at ≤ length bytes.now → at + size_of result ≤ length bytes.now }
+{
+    first_record(bytes.get(at..)?)
 }
 
-// All of a site's actions on the section's article above `from` and up to `to` are carried.
-#[derive(Clone, Copy, Debug, PartialEq, Eq)]
-pub struct Interval {
-    pub site: u8,
-    pub from: u32,
-    pub to: u32,
+// The record that the bytes begin with.
+#[inline(always)]
+fn first_record(bytes: &[u8]) -> Option<Record>
+    ensures value { result ≡ record_in bytes.now }
+    ensures fits { size_of result ≤ length bytes.now }
+{
+    let due = match bytes {
+        [b'H', ..] => Due::Header,
+        [b'S', ..] => Due::Section,
+        [b'I', ..] => Due::Interval,
+        [b'A', ..] => Due::Action,
+        _ => return None,
+    };
+    decode(due, bytes).ok().flatten()
 }
 
-// One record of a message: a byte for its kind and a body whose length the kind fixes.
-#[derive(Clone, Copy, Debug, PartialEq, Eq)]
-pub enum Record {
-    Header(Header),
-    Section(SectionHead),
-    Interval(Interval),
-    Action(Action),
+// The records of a message, one after another; of any other bytes, those up to where none begins. Intervals and
+// actions are looked for among them.
+//
+// Each `next` is inlined, as decoding is, so that a record is not written to memory and read back.
+//
+// The clause `runs` of each `new` is a law of iterators that are seen as the list of what they have left. It says
+// nothing of the bytes, and stands there so that the proof of a caller's chain has it at hand.
+#[derive(Drop)]
+pub struct Records<'a> {
+    bytes: &'a [u8],
+    at: usize,
+}
+
+impl<'a> Model for Records<'a> {
+    ghost Value = { List FoundRecord };
+
+    ghost view = { λ r. found_from r.bytes.now r.at };
+
+    ghost invariant = { λ r. r.at ≤ length r.bytes.now };
+}
+
+impl<'a> Records<'a> {
+    // From the first record on.
+    pub fn new(bytes: &'a [u8]) -> Records<'a>
+        ensures left { result ≡ found_in bytes.now }
+        ensures reads_back { (m : Message) → IsMessage bytes.now m → result ≡ placed 0 (records m) }
+        ensures few { length result ≤ length bytes.now }
+        ensures runs { YieldsInOrder (YieldsFirst {A = FoundRecord} (λ left. left)) (λ left. left) }
+    {
+        Records { bytes, at: 0 }
+    }
+}
+
+impl<'a> Iterator for Records<'a> {
+    type Item = FoundRecord;
+
+    ghost next_gives = { YieldsFirst (λ left. left) };
+
+    ghost remaining = { item_count (λ left. left) };
+
+    #[inline(always)]
+    fn next(&mut self) -> Option<FoundRecord> {
+        let offset = self.at;
+        let record = record_at(self.bytes, offset)?;
+        self.at = offset + record.size();
+        Some(FoundRecord { offset, record })
+    }
+}
+
+/// Which site sent the message; 0 where the bytes begin with no header.
+pub fn sender_of(bytes: &[u8]) -> u8
+    ensures value { result ≡ its_sender (record_in bytes.now) }
+    ensures reads_back { (m : Message) → IsMessage bytes.now m → result ≡ m.sender }
+{
+    match record_at(bytes, 0) {
+        Some(Record::Header(header)) => header.sender,
+        _ => 0,
+    }
 }

@@ -3,12 +3,12 @@
 // outside (scripts/pace). The output that is expected of it is the second program's.
 #![tactic(auto)]
 
-mod bags;
-mod benches;
-mod jobs;
-mod rounds;
+mod bag;
+mod bench;
+mod job;
+mod round;
 
-use jobs::Job;
+use crate::job::Job;
 use std::io;
 use trials::NoJob;
 

@@ -1,7 +1,7 @@
 -- A table's own ticket is one alone. Assumes nothing.
 use Rattle.std.proofs.Common.{rules, ◌≡◌, true, Some, None, Option, refl}
 use Rattle.kind.specs.Meaning.{Meaning}
-use Rattle.table.specs.declared.tickets.Ticket.{Ticket}
+use Rattle.table.specs.declared.ticket.Ticket.{Ticket}
 use Rattle.table.specs.Transactions.{holds, open_refusal}
 use Rattle.table.specs.View.{View}
 

@@ -1,7 +1,7 @@
 -- What a call by a ticket has to keep. Assumes nothing.
 use Rattle.std.specs.Prelude.{◌≡◌, true, Some, None, Option}
 use Rattle.kind.specs.Meaning.{Meaning}
-use Rattle.table.specs.declared.tickets.Ticket.{Ticket}
+use Rattle.table.specs.declared.ticket.Ticket.{Ticket}
 use Rattle.table.specs.Transactions.{holds}
 use Rattle.table.specs.View.{View}
 

@@ -6,28 +6,28 @@
 // needs a clock near 4,000,000,000, which a run that starts at 0 does not reach. All others are met.
 #![tactic(auto)]
 
-mod books;
-mod dues;
-mod forgeries;
-mod laws;
-mod levels;
-mod lines;
-mod makes;
-mod outsiders;
-mod picks;
-mod plays;
-mod reports;
+mod book;
+mod choice;
+mod due;
+mod forger;
+mod law;
+mod level;
+mod line;
+mod maker;
+mod outsider;
+mod pick;
+mod report;
 mod run;
-mod seats;
-mod slots;
-mod stops;
-mod transactions;
-mod walks;
+mod seat;
+mod slot;
+mod stop;
+mod transaction;
+mod walk;
 
-use crate::outsiders::Stranger;
-use crate::plays::play_run;
-use crate::reports::Counts;
-use crate::stops::Stop;
+use crate::choice::play_run;
+use crate::outsider::Stranger;
+use crate::report::Counts;
+use crate::stop::Stop;
 use kind::{Flags, Kind, OnHand, Price};
 use runs::each_movement_counted_once;
 use std::io;

@@ -1,10 +1,10 @@
 // One run: the tables of one group, the messages that wait, and the book.
-use crate::books::Book;
-use crate::outsiders::Outsider;
-use crate::reports::Counts;
-use crate::seats::Seat;
-use crate::slots::Slot;
-use history::Shelf;
+use crate::book::Book;
+use crate::outsider::Outsider;
+use crate::report::Counts;
+use crate::seat::Seat;
+use crate::slot::Slot;
+use history::RackOrStrip;
 use kind::Kind;
 use std::alloc::{AllocError, Global};
 use table::Table;
@@ -20,7 +20,7 @@ pub(crate) struct Run<K: Kind + Drop, J: Kind + Drop> {
     pub(crate) sites: u8,
     pub(crate) articles: u8,
     // By site.
-    pub(crate) seats: Vec<Seat<K, Shelf>>,
+    pub(crate) seats: Vec<Seat<K, RackOrStrip>>,
     pub(crate) outsider: Outsider<J>,
     pub(crate) slots: Vec<Slot>,
     pub(crate) book: Book,
@@ -29,15 +29,15 @@ pub(crate) struct Run<K: Kind + Drop, J: Kind + Drop> {
 }
 
 impl<K: Kind + Drop, J: Kind + Drop> Run<K, J> {
-    fn seat(&self, site: u8) -> Option<&Seat<K, Shelf>> {
+    fn seat(&self, site: u8) -> Option<&Seat<K, RackOrStrip>> {
         self.seats.get(usize::from(site))
     }
 
-    pub(crate) fn seat_mut(&mut self, site: u8) -> Option<&mut Seat<K, Shelf>> {
+    pub(crate) fn seat_mut(&mut self, site: u8) -> Option<&mut Seat<K, RackOrStrip>> {
         self.seats.get_mut(usize::from(site))
     }
 
-    pub(crate) fn table(&self, site: u8) -> Option<&Table<K, Shelf>> {
+    pub(crate) fn table(&self, site: u8) -> Option<&Table<K, RackOrStrip>> {
         self.seat(site).map(|seat| seat.table())
     }
 

@@ -2,10 +2,10 @@
 use Rattle.std.proofs.Common.{◌≡◌, ℕ, zero, suc, ◌+◌, ◌<◌, ◌≤◌, max, cond, eqb, List, [], ◌∷◌, map, length, get_or, set, ℤ, fold, filter, sym, refl, ap, ◌∙◌, subst, ⊎_elim, add-zero, zero-add, arith}
 use Rattle.std.proofs.lemmas.List.{ext_get_or, get_or-map, get_or_past, get_or-set_other, get_or-set_same, length-map, length-set, set-get_or, set_past, set-set}
 use Rattle.std.proofs.lemmas.Bool.{cases_eq, cases_lt, eq-eqb, ne_eqb}
-use Rattle.action.specs.declared.orders.Action.{Action}
+use Rattle.action.specs.declared.action.Action.{Action}
 use Rattle.kind.specs.Working.{on, working}
-use Rattle.message.specs.declared.records.Interval.{Interval}
-use Rattle.row.specs.declared.rows.Row.{Row}
+use Rattle.message.specs.declared.record.Interval.{Interval}
+use Rattle.row.specs.declared.row.Row.{Row}
 use Rattle.row.specs.Rows.{on_article_row, on_row, raised_row, raised_row_by, restarted, reworked_rows, stepped_row, stepped_rows}
 use Rattle.row.specs.Passes.{raised_by}
 use Rattle.row.specs.Entries.{at, each_row, no_row, raised}

@@ -5,7 +5,7 @@ use Rattle.std.specs.List.{AllByRecursion}
 use Rattle.std.proofs.ByRecursion.{All-append, All-weaker}
 use Rattle.std.proofs.lemmas.Bool.Decides.{nat_tests}
 use Rattle.std.proofs.lemmas.List.Sums.{suffix_len_is}
-use Rattle.action.specs.declared.orders.Action.{Action}
+use Rattle.action.specs.declared.action.Action.{Action}
 use Rattle.action.specs.Order.{Ascending, place_of, placed, precedes}
 use Rattle.action.proofs.Pairs.{pairwise_append, pairwise_parts, pairwise_weaker}
 use Rattle.action.proofs.Placing.{placing}

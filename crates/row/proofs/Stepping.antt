@@ -2,8 +2,8 @@
 use Rattle.std.proofs.Common.{◌≡◌, ℕ, List, ℤ, length, get_or, set, sym, ap, ◌∙◌, ⊎_elim}
 use Rattle.std.proofs.lemmas.List.{get_or-set_other, get_or-set_same, set_past}
 use Rattle.std.proofs.lemmas.Bool.{cases_eq, cases_lt}
-use Rattle.action.specs.declared.orders.Action.{Action}
-use Rattle.row.specs.declared.rows.Row.{Row}
+use Rattle.action.specs.declared.action.Action.{Action}
+use Rattle.row.specs.declared.row.Row.{Row}
 use Rattle.row.specs.Rows.{on_row, stepped_row}
 use Rattle.row.specs.Entries.{at, entry_in, no_row}
 

@@ -1,6 +1,6 @@
 -- What is kept of one article, and its known entries. Assumes nothing.
 use Rattle.std.specs.Prelude.{ℕ, suc, max, List, [], ◌∷◌, get_or, replicate, ℤ, pos, slice_index, slice_index_or, slice_set}
-use Rattle.row.specs.declared.rows.Row.{Row}
+use Rattle.row.specs.declared.row.Row.{Row}
 
 -- no site is known to have reached anything
 abbrev pub unknown : List (List ℕ)

@@ -1,10 +1,10 @@
 -- What the passes over a message and over the history look for, by rows. Assumes nothing.
 use Rattle.std.specs.Prelude.{ℕ, min, max, Bool, ◌&&◌, List, fold, filter, ◌==◌, nat_le, nat_lt}
 use Rattle.std.specs.List.{range_with_len}
-use Rattle.action.specs.declared.orders.Action.{Action}
-use Rattle.message.specs.declared.records.Interval.{Interval}
+use Rattle.action.specs.declared.action.Action.{Action}
+use Rattle.message.specs.declared.record.Interval.{Interval}
 use Rattle.message.specs.Walks.{actions_of, records_in}
-use Rattle.row.specs.declared.rows.Row.{Row}
+use Rattle.row.specs.declared.row.Row.{Row}
 use Rattle.row.specs.Entries.{entry_in, raised}
 
 -- A MESSAGE

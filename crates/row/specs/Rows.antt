@@ -1,9 +1,9 @@
 -- What actions do to the rows of a table. Assumes nothing.
 use Rattle.std.specs.Prelude.{ℕ, List, map, ℤ, fold, slice_index_or, slice_set}
-use Rattle.action.specs.declared.orders.Action.{Action}
-use Rattle.message.specs.declared.records.Interval.{Interval}
+use Rattle.action.specs.declared.action.Action.{Action}
+use Rattle.message.specs.declared.record.Interval.{Interval}
 use Rattle.message.specs.Walks.{intervals_of, record_in, records_in, its_sender}
-use Rattle.row.specs.declared.rows.Row.{Row}
+use Rattle.row.specs.declared.row.Row.{Row}
 use Rattle.row.specs.Entries.{no_row, raised}
 use Rattle.row.specs.Passes.{raised_by}
 

@@ -1,6 +1,6 @@
 -- The order that a search by halves stands on. Assumes nothing.
 use Rattle.std.specs.Prelude.{◌≡◌, false, List}
-use Rattle.action.specs.declared.orders.Action.{Action}
+use Rattle.action.specs.declared.action.Action.{Action}
 use Rattle.action.specs.Order.{Pairwise, precedes}
 
 -- the later one does not precede the other

@@ -2,17 +2,12 @@
 // table's calls are made of.
 #![tactic(auto)]
 
-mod archives;
-mod entries;
-mod intervals;
-mod ledgers;
-mod makes;
-mod places;
-mod posts;
-mod rows;
-mod takes;
+mod archive;
+mod ledger;
+mod place;
+mod row;
 
-pub use archives::move_actions;
-pub use ledgers::Ledger;
-pub use places::append;
-pub use rows::Row;
+pub use archive::move_actions;
+pub use ledger::Ledger;
+pub use place::append;
+pub use row::Row;

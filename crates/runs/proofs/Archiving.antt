@@ -4,13 +4,13 @@ use Rattle.std.proofs.Common.{◌≡◌, ℕ, ◌<◌, true, eqb, leb, List, ◌
 use Rattle.std.specs.List.{ContainsAt as Has, AllByRecursion}
 use Rattle.std.proofs.ByRecursion.{All-append, All-weaker, kept_by_passes}
 use Rattle.std.proofs.lemmas.Bool.{and_parts, cases_eq, cond-false, cond-true, eq-eqb, leb-true, ne_eqb}
-use Rattle.action.specs.declared.orders.Action.{Action}
+use Rattle.action.specs.declared.action.Action.{Action}
 use Rattle.action.specs.Order.{Ascending}
 use Rattle.kind.specs.Meaning.{Meaning}
 use Rattle.kind.specs.Working.{on, working}
 use Rattle.kind.proofs.Workings.{working_append}
-use Rattle.table.specs.declared.faults.TableFault.{TableFault}
-use Rattle.row.specs.declared.rows.Row.{Row}
+use Rattle.table.specs.declared.table_fault.TableFault.{TableFault}
+use Rattle.row.specs.declared.row.Row.{Row}
 use Rattle.table.specs.Archiving.{archived, archived_row, is_old, least, olds}
 use Rattle.table.specs.Sound.{Sound}
 use Rattle.table.specs.View.{View, entry, row}

@@ -3,7 +3,7 @@ use Rattle.std.proofs.Common.{ℕ, ◌<◌, [], sym, refl, ap, subst, arith, w64
 use Rattle.std.proofs.lemmas.List.{get_or-replicate}
 use Rattle.action.proofs.Members.{has_none}
 use Rattle.kind.specs.Meaning.{Meaning}
-use Rattle.row.specs.declared.rows.Row.{Row}
+use Rattle.row.specs.declared.row.Row.{Row}
 use Rattle.table.specs.View.{View, fresh}
 use Rattle.row.specs.Entries.{no_row, start_row}
 use Rattle.table.proofs.Soundness.{fresh_entry, fresh_sound}

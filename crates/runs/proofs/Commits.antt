@@ -4,14 +4,14 @@ use Rattle.std.specs.List.{ContainsAt as Has}
 use Rattle.std.proofs.ByRecursion.{all-has, all_kept_by, All-weaker, has_append_left, has_append_right}
 use Rattle.std.proofs.lemmas.List.{append_assoc}
 use Rattle.std.proofs.lemmas.Bool.{cases_eq, cond-false, cond-true, eq-eqb, eqb-true, ne_eqb}
-use Rattle.action.specs.declared.orders.Action.{Action}
+use Rattle.action.specs.declared.action.Action.{Action}
 use Rattle.action.specs.Order.{Ascending, Distinct}
 use Rattle.action.proofs.Members.{all_from_has, has_append_cases, has_kept_by, has_kept_by_parts}
 use Rattle.action.proofs.Sequence.{ascending_append, ascending_kept}
 use Rattle.kind.specs.Meaning.{Meaning}
 use Rattle.kind.specs.Working.{on}
 use Rattle.kind.proofs.Workings.{on_append}
-use Rattle.row.specs.declared.rows.Row.{Row}
+use Rattle.row.specs.declared.row.Row.{Row}
 use Rattle.table.specs.Sound.{Sound}
 use Rattle.table.specs.Transactions.{committed, latest}
 use Rattle.table.specs.View.{View, entry}

@@ -3,12 +3,12 @@ use Rattle.std.proofs.Common.{◌≡◌, ℕ, ◌<◌, ◌≤◌, ◌⊎◌, Lis
 use Rattle.std.specs.List.{range_with_len, ContainsAt as Has, AllByRecursion}
 use Rattle.std.proofs.ByRecursion.{All-append, all-has, All-weaker, has_append_left}
 use Rattle.std.proofs.lemmas.Bool.{cases_eq}
-use Rattle.action.specs.declared.orders.Action.{Action}
+use Rattle.action.specs.declared.action.Action.{Action}
 use Rattle.action.specs.Order.{Apart, Distinct}
 use Rattle.action.proofs.Pairs.{pairwise_append}
 use Rattle.action.proofs.Members.{all_from_has, has_append_cases}
 use Rattle.kind.specs.Meaning.{Meaning}
-use Rattle.message.specs.declared.records.Interval.{Interval}
+use Rattle.message.specs.declared.record.Interval.{Interval}
 use Rattle.message.specs.Format.{Message, carried, told_intervals}
 use Rattle.message.proofs.Carried.{told_intervals_lawful}
 use Rattle.table.specs.View.{View, entry}

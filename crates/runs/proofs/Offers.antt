@@ -3,13 +3,13 @@ use Rattle.std.proofs.Common.{◌≡◌, ℕ, ◌<◌, ◌≤◌, true, eqb, ltb
 use Rattle.std.specs.List.{range_with_len, ContainsAt as Has, AllByRecursion}
 use Rattle.std.proofs.ByRecursion.{All-append, all-has, All-map, All-weaker, has_append_left, has_append_right}
 use Rattle.std.proofs.lemmas.Bool.{and_from, and_parts, eq-eqb, le-leb, lt-ltb, ltb-true}
-use Rattle.action.specs.declared.orders.Action.{Action}
+use Rattle.action.specs.declared.action.Action.{Action}
 use Rattle.action.proofs.Members.{all_from_has, has_append_cases, has_kept_by, has_kept_by_parts}
 use Rattle.kind.specs.Meaning.{Meaning}
 use Rattle.kind.specs.Working.{on}
-use Rattle.message.specs.declared.records.Interval.{Interval}
+use Rattle.message.specs.declared.record.Interval.{Interval}
 use Rattle.message.specs.Format.{Message, carried, told_intervals}
-use Rattle.table.specs.declared.faults.TableFault.{TableFault}
+use Rattle.table.specs.declared.table_fault.TableFault.{TableFault}
 use Rattle.table.specs.Offers.{is_offered, offer_bytes, offer_interval, offer_message}
 use Rattle.table.specs.View.{View, entry}
 use Rattle.table.proofs.Lawfulness.{offer_lawful}

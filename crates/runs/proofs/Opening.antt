@@ -3,10 +3,10 @@
 use Rattle.std.proofs.Common.{◌≡◌, ℕ, ◌+◌, ◌<◌, Bool, true, false, eqb, List, [], ◌∷◌, ◌++◌, length, ℤ, Ok, Err, Result, sym, refl, ap, ◌∙◌, subst, inl, arith}
 use Rattle.std.proofs.lemmas.List.{append-nil}
 use Rattle.std.proofs.lemmas.Bool.{cond-false, cond-true, eq-eqb, ne_eqb}
-use Rattle.action.specs.declared.orders.Action.{Action}
+use Rattle.action.specs.declared.action.Action.{Action}
 use Rattle.kind.specs.Meaning.{Meaning}
-use Rattle.table.specs.declared.faults.TableFault.{TableFault}
-use Rattle.table.specs.declared.tickets.Ticket.{Ticket}
+use Rattle.table.specs.declared.table_fault.TableFault.{TableFault}
+use Rattle.table.specs.declared.ticket.Ticket.{Ticket}
 use Rattle.table.specs.Sound.{Sound}
 use Rattle.table.specs.Transactions.{new_action, with_transaction}
 use Rattle.table.specs.View.{View, entry}

@@ -3,13 +3,13 @@ use Rattle.std.proofs.Common.{◌≡◌, ℕ, ◌<◌, ◌≤◌, max, Bool, tru
 use Rattle.std.specs.List.{ContainsAt as Has, AllByRecursion}
 use Rattle.std.proofs.ByRecursion.{all-has, All-weaker}
 use Rattle.std.proofs.lemmas.Bool.{eqb-true, le-ltb}
-use Rattle.action.specs.declared.orders.Action.{Action}
-use Rattle.action.specs.declared.setups.Setup.{Setup}
+use Rattle.action.specs.declared.action.Action.{Action}
+use Rattle.action.specs.declared.setup.Setup.{Setup}
 use Rattle.action.specs.Order.{placed}
 use Rattle.action.proofs.Members.{all_from_has, has_kept_by_parts, kept_by_none}
 use Rattle.kind.specs.Meaning.{Meaning}
 use Rattle.kind.specs.Working.{on, working}
-use Rattle.message.specs.declared.records.Interval.{Interval}
+use Rattle.message.specs.declared.record.Interval.{Interval}
 use Rattle.message.specs.Format.{Message, carried, told_intervals}
 use Rattle.message.specs.Lawful.{Carries, LawfulMessage}
 use Rattle.message.proofs.Carried.{carried_within}

@@ -5,8 +5,8 @@ use Rattle.std.specs.List.{ContainsAt as Has}
 use Rattle.std.proofs.ByRecursion.{all-has, All-map, All-weaker, has_append_left, has_append_right}
 use Rattle.std.proofs.lemmas.List.{append-nil}
 use Rattle.std.proofs.lemmas.Bool.{cases_eq, cases_lt, cond_both, cond-true, eq-eqb, eqb-true, lt-ltb, ne_eqb}
-use Rattle.action.specs.declared.orders.Action.{Action}
-use Rattle.action.specs.declared.setups.Setup.{Setup}
+use Rattle.action.specs.declared.action.Action.{Action}
+use Rattle.action.specs.declared.setup.Setup.{Setup}
 use Rattle.action.specs.Order.{Ascending, Leads, precedes}
 use Rattle.action.proofs.Members.{all_from_has, has_append_cases, has_kept_by, has_kept_by_parts}
 use Rattle.action.proofs.Placing.{has_folded_placed, has_folded_placed_cases}
@@ -14,13 +14,13 @@ use Rattle.action.proofs.Precedence.{precedes_by_time}
 use Rattle.action.proofs.Sequence.{ascending_kept, ascending_parts, ascending_together, leads_has}
 use Rattle.kind.specs.Meaning.{Meaning}
 use Rattle.kind.specs.Working.{on}
-use Rattle.message.specs.declared.records.Interval.{Interval}
+use Rattle.message.specs.declared.record.Interval.{Interval}
 use Rattle.message.specs.Format.{Message, carried, format, told_intervals}
 use Rattle.message.specs.Lawful.{LawfulInterval, LawfulMessage}
 use Rattle.message.proofs.Carried.{told_intervals_lawful}
 use Rattle.message.proofs.ReadingBack.{intervals_back}
 use Rattle.message.proofs.Verdicts.{messages_unique}
-use Rattle.table.specs.declared.faults.TableFault.{TableFault}
+use Rattle.table.specs.declared.table_fault.TableFault.{TableFault}
 use Rattle.table.specs.Sound.{Fitting, Sound}
 use Rattle.table.specs.Taking.{highest, is_new, news, take_refusal, taken, taken_row}
 use Rattle.table.specs.View.{View, entry, row}

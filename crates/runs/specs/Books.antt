@@ -2,7 +2,7 @@
 -- computed from the events alone, by who called what and whether it was granted. Assumes nothing.
 use Rattle.std.specs.Prelude.{ℕ, ◌+◌, max, Bool, cond, ◌&&◌, List, [], ◌∷◌, ◌++◌, map, length, ℤ, Ok, Err, fold, filter, ◌==◌, nat_le}
 use Rattle.std.specs.List.{range_with_len}
-use Rattle.action.specs.declared.orders.Action.{Action}
+use Rattle.action.specs.declared.action.Action.{Action}
 use Rattle.action.specs.Order.{in_order}
 use Rattle.kind.specs.Meaning.{Meaning}
 use Rattle.kind.specs.Working.{on, working}

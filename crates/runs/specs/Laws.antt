@@ -1,13 +1,13 @@
 -- The laws of whole runs. Assumes nothing.
 use Rattle.std.specs.Prelude.{◌≡◌, ℕ, ◌<◌, ◌≤◌, true, false, ◌⊎◌, List, [], Ok, Result}
 use Rattle.std.specs.List.{ContainsAt as Has, AllByRecursion}
-use Rattle.action.specs.declared.orders.Action.{Action}
+use Rattle.action.specs.declared.action.Action.{Action}
 use Rattle.action.specs.Order.{Distinct}
 use Rattle.kind.specs.Meaning.{Meaning}
-use Rattle.message.specs.declared.records.Interval.{Interval}
+use Rattle.message.specs.declared.record.Interval.{Interval}
 use Rattle.message.specs.Format.{Message, carried, format, told_intervals}
 use Rattle.message.specs.Lawful.{Carries, LawfulMessage}
-use Rattle.table.specs.declared.faults.TableFault.{TableFault}
+use Rattle.table.specs.declared.table_fault.TableFault.{TableFault}
 use Rattle.table.specs.Answers.{figure, open_item}
 use Rattle.table.specs.Taking.{Took, highest}
 use Rattle.table.specs.View.{View, entry}

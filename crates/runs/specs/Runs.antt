@@ -1,7 +1,7 @@
 -- Runs of one group's tables: any events in any order, each as its call's contract says. Assumes nothing.
 use Rattle.std.specs.Prelude.{◌≡◌, ℕ, ◌<◌, ◌≤◌, List, [], ◌∷◌, map, Ok, Err, ◌≢◌}
 use Rattle.std.specs.List.{ContainsAt as Has}
-use Rattle.action.specs.declared.setups.Setup.{Setup}
+use Rattle.action.specs.declared.setup.Setup.{Setup}
 use Rattle.kind.specs.Meaning.{Meaning}
 use Rattle.table.specs.View.{View, fresh}
 use Rattle.runs.specs.Events.{Call, Does, Event, wrote}

@@ -1,15 +1,15 @@
 -- What a slot holds after a granted or refused move or offer, and that the slots of a new desk are empty.
 use Rattle.std.proofs.Common.{◌≡◌, ℕ, zero, suc, ◌<◌, List, [], ◌∷◌, length, get_or, take, replicate, ℤ, Some, None, Ok, Err, Result, MatchResult, IsOkAnd, subst, sym, refl, ap, ◌∙◌, arith}
 use Rattle.std.proofs.lemmas.List.{length-replicate}
-use Rattle.action.specs.declared.refusals.Refusal.{Refusal}
+use Rattle.action.specs.declared.refusal.Refusal.{Refusal}
 use Rattle.kind.specs.Meanings.{on_hand}
 use Rattle.table.specs.Offers.{offer_bytes, offer_refusal}
-use Rattle.table.specs.declared.faults.TableFault.{TableFault}
-use Rattle.table.specs.declared.tickets.Ticket.{Ticket}
+use Rattle.table.specs.declared.table_fault.TableFault.{TableFault}
+use Rattle.table.specs.declared.ticket.Ticket.{Ticket}
 use Rattle.table.specs.Transactions.{Committed, Opened, Wrote, abandoned, commit_refusal, committed, fitting, new_action, next_time, opened, transaction_bytes, write_refusal, written}
 use Rattle.table.specs.View.{View}
 use Rattle.runs.proofs.Writing.{written_back}
-use Rattle.script.specs.declared.answers.Answer.TheVariants.{Time, Length}
+use Rattle.script.specs.declared.answer.Answer.TheVariants.{Time, Length}
 use Rattle.script.specs.Acts.{Outcome, by_refusal, move_outcome, offer_outcome, outcome_once_opened, outcome_once_written, refused_at}
 use Rattle.script.specs.Slots.{blank}
 

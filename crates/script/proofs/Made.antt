@@ -1,13 +1,13 @@
 -- The calls that the commands make which write into a slot or take from one, and the run that they lead to.
 use Rattle.std.proofs.Common.{◌≡◌, ℕ, ◌<◌, ◌≤◌, true, false, not, ltb, leb, List, [], ◌∷◌, ◌++◌, length, ℤ, Some, None, Ok, Err, OnErr, Result, sym, refl, ap, ◌∙◌, subst, ⊎_elim, arith, w32, SFits}
 use Rattle.std.proofs.lemmas.Bool.{and_from, cond-true, eq-eqb, le-leb, ltb-true}
-use Rattle.action.specs.declared.orders.Action.{Action}
+use Rattle.action.specs.declared.action.Action.{Action}
 use Rattle.action.specs.Lawful.{by_table, unless}
 use Rattle.kind.specs.Meanings.{on_hand, on_hand_knows}
 use Rattle.message.specs.Buffer.{overwritten}
 use Rattle.message.specs.Format.{Message, format}
-use Rattle.table.specs.declared.faults.TableFault.{TableFault}
-use Rattle.table.specs.declared.tickets.Ticket.{Ticket}
+use Rattle.table.specs.declared.table_fault.TableFault.{TableFault}
+use Rattle.table.specs.declared.ticket.Ticket.{Ticket}
 use Rattle.table.specs.Faults.{shown}
 use Rattle.table.specs.Offers.{offer_bytes, offer_refusal}
 use Rattle.table.specs.Sound.{Sound}
@@ -19,9 +19,9 @@ use Rattle.runs.specs.Events.{Call, Does, Event, at}
 use Rattle.runs.specs.Events.Call.{Opens, Writes, Commits, Abandons, Offers, Takes}
 use Rattle.runs.specs.Runs.{Group, Honest, Ran}
 use Rattle.runs.proofs.Writing.{written_back}
-use Rattle.script.specs.declared.answers.Answer.TheVariants.{Time, Length}
-use Rattle.script.specs.declared.commands.Command.{Command}
-use Rattle.script.specs.declared.commands.Command.TheVariants.{Move, Offer}
+use Rattle.script.specs.declared.answer.Answer.TheVariants.{Time, Length}
+use Rattle.script.specs.declared.command.Command.{Command}
+use Rattle.script.specs.declared.command.Command.TheVariants.{Move, Offer}
 use Rattle.script.specs.Acts.{Outcome, by_refusal, move_outcome, offer_outcome, outcome_once_opened, outcome_once_written, refused_at, take_reply}
 use Rattle.script.specs.Desk.{DeskView, table_at, with_table}
 use Rattle.script.specs.Slots.{blank}

@@ -2,8 +2,8 @@
 use Rattle.std.proofs.Common.{◌≡◌, ℕ, zero, suc, ◌+◌, ◌*◌, ◌<◌, ◌≤◌, Bool, true, cond, ◌&&◌, eqb, leb, ltb, List, length, drop, pos, neg_ℤ, IfSome, Some, None, Option, arith, w32, SFits, refl}
 use Rattle.std.proofs.lemmas.Bool.{and_from, and_parts, cond_both, le-leb, ltb-true}
 use Rattle.kind.specs.Meanings.{on_hand_knows}
-use Rattle.script.specs.declared.commands.Command.{Command}
-use Rattle.script.specs.declared.commands.Command.TheVariants.{Move, Offer, Take, Figure, OpenItem}
+use Rattle.script.specs.declared.command.Command.{Command}
+use Rattle.script.specs.declared.command.Command.TheVariants.{Move, Offer, Take, Figure, OpenItem}
 use Rattle.script.specs.Lines.{amount_of, are_digits, command, figure_of, hundreds, is_digit, is_figure, is_move, is_offer, is_open_item, is_sign, is_site, is_take, move_of, offer_of, open_item_of, place, signed_by, take_of, value}
 
 abbrev pub Ranged : Command → Type 0

@@ -2,13 +2,13 @@
 use Rattle.std.proofs.Common.{◌≡◌, ℕ, ◌+◌, ◌≤◌, ◌⊎◌, Bool, true, false, not, ltb, leb, List, [], ◌∷◌, length, ℤ, IfSome, Some, None, Option, sym, refl, ap, ◌∙◌, subst, inl, inr, ⊎_elim, arith}
 use Rattle.std.proofs.lemmas.Bool.{cond-true, cond_both, le-leb}
 use Rattle.std.proofs.lemmas.List.Filters.{length-filter_both}
-use Rattle.action.specs.declared.refusals.Refusal.{Refusal}
+use Rattle.action.specs.declared.refusal.Refusal.{Refusal}
 use Rattle.action.specs.Lawful.{by_history, by_table, unless}
-use Rattle.history.specs.declared.faults.HistoryFault.TheVariants.{Full}
+use Rattle.history.specs.declared.history_fault.HistoryFault.TheVariants.{Full}
 use Rattle.kind.specs.Meanings.{on_hand, on_hand_knows}
-use Rattle.table.specs.declared.faults.TableFault.{TableFault}
-use Rattle.table.specs.declared.faults.TableFault.TheVariants.{NotItsTicket, NoArticle, NoSite, UnknownPair, TooManyWrites, TooLate, Short, InHistory}
-use Rattle.table.specs.declared.tickets.Ticket.{Ticket}
+use Rattle.table.specs.declared.table_fault.TableFault.{TableFault}
+use Rattle.table.specs.declared.table_fault.TableFault.TheVariants.{NotItsTicket, NoArticle, NoSite, UnknownPair, TooManyWrites, TooLate, Short, InHistory}
+use Rattle.table.specs.declared.ticket.Ticket.{Ticket}
 use Rattle.table.specs.Faults.{shown}
 use Rattle.table.specs.Offers.{is_offered, offer_bytes, offer_refusal}
 use Rattle.table.specs.Sound.{Sound}

@@ -6,7 +6,7 @@ use Rattle.std.specs.declared.alloc.AllocError.{AllocError}
 use Rattle.std.proofs.lemmas.Bool.{ltb-true}
 use Rattle.std.proofs.lemmas.List.{set-get_or}
 use Rattle.std.proofs.lemmas.Result.{on_err_weaker}
-use Rattle.action.specs.declared.setups.Setup.{Setup}
+use Rattle.action.specs.declared.setup.Setup.{Setup}
 use Rattle.action.specs.Lawful.{by_table, unless}
 use Rattle.kind.specs.Meanings.{on_hand}
 use Rattle.kind.specs.OnHandLaws.{on_hand_commutes, on_hand_fits}
@@ -18,9 +18,9 @@ use Rattle.runs.specs.Laws.{Counted, EveryRun}
 use Rattle.runs.specs.Runs.{Group, OfGroup}
 use Rattle.runs.proofs.Laws.{every_counted, run_stands}
 use Rattle.runs.proofs.Standing.{Standing}
-use Rattle.script.specs.declared.answers.Answer.TheVariants as Answers
-use Rattle.script.specs.declared.commands.Command.{Command}
-use Rattle.script.specs.declared.commands.Command.TheVariants.{Move, Offer, Take, Figure, OpenItem}
+use Rattle.script.specs.declared.answer.Answer.TheVariants as Answers
+use Rattle.script.specs.declared.command.Command.{Command}
+use Rattle.script.specs.declared.command.Command.TheVariants.{Move, Offer, Take, Figure, OpenItem}
 use Rattle.script.specs.Acts.{Outcome, Reply, by_refusal, figure_reply, open_item_reply, take_reply}
 use Rattle.script.specs.Desk.{Acts, ActsAt, DeskView, FreshDesk, FreshSite, Performs, PerformsCommand, SiteTurn, site_turn, table_at, with_slots, with_table}
 use Rattle.script.specs.Lines.{command}

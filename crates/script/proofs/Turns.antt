@@ -2,7 +2,7 @@
 use Rattle.std.proofs.Common.{◌≡◌, ℕ, ◌<◌, List, [], length, get_or, set, sym, ap, ◌∙◌, subst}
 use Rattle.std.proofs.lemmas.List.{get_or_default}
 use Rattle.table.specs.View.{View}
-use Rattle.script.specs.declared.commands.Command.{Command}
+use Rattle.script.specs.declared.command.Command.{Command}
 use Rattle.script.specs.Acts.{Outcome, Reply}
 use Rattle.script.specs.Desk.{ActsAt, SiteTurn, site_turn}
 

@@ -1,17 +1,17 @@
 -- What each command does at one site, in terms of the table's calls. Assumes nothing.
 use Rattle.std.specs.Prelude.{◌≡◌, ℕ, List, length, ℤ, Some, None, Ok, Err, Option, Result}
-use Rattle.action.specs.declared.refusals.Refusal.{Refusal}
+use Rattle.action.specs.declared.refusal.Refusal.{Refusal}
 use Rattle.kind.specs.Meanings.{on_hand}
-use Rattle.table.specs.declared.faults.TableFault.{TableFault}
+use Rattle.table.specs.declared.table_fault.TableFault.{TableFault}
 use Rattle.table.specs.Answers.{figure, figure_refusal, open_item, open_item_refusal}
 use Rattle.table.specs.Faults.{shown}
 use Rattle.table.specs.Offers.{offer_bytes, offer_refusal}
 use Rattle.table.specs.Taking.{Took}
 use Rattle.table.specs.Transactions.{abandoned, commit_refusal, committed, fitting, new_action, next_time, open_refusal, opened, ticket, transaction_bytes, write_refusal, written}
 use Rattle.table.specs.View.{View}
-use Rattle.script.specs.declared.answers.Answer.{Answer}
-use Rattle.script.specs.declared.answers.Answer.TheVariants.{Time, Length, Taken, Figure, IsOpen}
-use Rattle.script.specs.declared.faults.LineFault.{LineFault}
+use Rattle.script.specs.declared.answer.Answer.{Answer}
+use Rattle.script.specs.declared.answer.Answer.TheVariants.{Time, Length, Taken, Figure, IsOpen}
+use Rattle.script.specs.declared.line_fault.LineFault.{LineFault}
 use Rattle.script.specs.Faults as LineFaults
 use Rattle.script.specs.Slots.{blank}
 

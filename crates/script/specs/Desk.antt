@@ -3,10 +3,10 @@ use Rattle.std.specs.Prelude.{◌≡◌, ℕ, zero, suc, List, [], replicate, So
 use Rattle.action.specs.Lawful.{by_table}
 use Rattle.kind.specs.Meanings.{on_hand}
 use Rattle.table.specs.View.{View, fresh}
-use Rattle.script.specs.declared.answers.Answer.{Answer}
-use Rattle.script.specs.declared.commands.Command.{Command}
-use Rattle.script.specs.declared.commands.Command.TheVariants.{Move, Offer, Take, Figure, OpenItem}
-use Rattle.script.specs.declared.faults.LineFault.{LineFault}
+use Rattle.script.specs.declared.answer.Answer.{Answer}
+use Rattle.script.specs.declared.command.Command.{Command}
+use Rattle.script.specs.declared.command.Command.TheVariants.{Move, Offer, Take, Figure, OpenItem}
+use Rattle.script.specs.declared.line_fault.LineFault.{LineFault}
 use Rattle.script.specs.Acts.{Outcome, Reply, TookSlot, figure_reply, move_outcome, offer_outcome, open_item_reply, reply_of}
 use Rattle.script.specs.Lines.{command, site_of}
 

@@ -2,8 +2,8 @@
 -- nothing between or after them. Each field is one digit, but for the sign and the amount of `M`. Assumes
 -- nothing.
 use Rattle.std.specs.Prelude.{◌≡◌, ℕ, ◌+◌, ◌-◌, ◌*◌, ◌<◌, Bool, true, false, cond, ◌&&◌, ◌||◌, List, length, drop, ℤ, pos, neg_ℤ, Some, None, Option, MatchOption, ◌==◌, nat_le, nat_lt, slice_index}
-use Rattle.script.specs.declared.commands.Command.{Command}
-use Rattle.script.specs.declared.commands.Command.TheVariants.{Move, Offer, Take, Figure, OpenItem}
+use Rattle.script.specs.declared.command.Command.{Command}
+use Rattle.script.specs.declared.command.Command.TheVariants.{Move, Offer, Take, Figure, OpenItem}
 
 -- the byte at a place, counted from 0
 abbrev pub place : List ℕ → ℕ → ℕ

@@ -1,10 +1,10 @@
 -- What is printed for a line. Assumes nothing.
 use Rattle.std.specs.Prelude.{◌≡◌, ℕ, cond, List, [], ◌∷◌, ◌++◌, Some, None, Ok, Err, Option, codes, decimal}
 use Rattle.std.specs.Fmt.{signed_decimal}
-use Rattle.script.specs.declared.answers.Answer.TheVariants as Answers
-use Rattle.script.specs.declared.commands.Command.{Command}
-use Rattle.script.specs.declared.commands.Command.TheVariants.{Move, Offer, Take, Figure, OpenItem}
-use Rattle.script.specs.declared.sheets.SheetLine.{SheetLine}
+use Rattle.script.specs.declared.answer.Answer.TheVariants as Answers
+use Rattle.script.specs.declared.command.Command.{Command}
+use Rattle.script.specs.declared.command.Command.TheVariants.{Move, Offer, Take, Figure, OpenItem}
+use Rattle.script.specs.declared.sheet_line.SheetLine.{SheetLine}
 use Rattle.script.specs.Acts.{Reply}
 use Rattle.script.specs.Lines.{command}
 

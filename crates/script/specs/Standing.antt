@@ -5,16 +5,16 @@ use Rattle.std.specs.List.{ContainsAt as Has, AllByRecursion}
 use Rattle.std.specs.declared.alloc.AllocError.{AllocError}
 use Rattle.action.specs.Lawful.{by_history, by_table}
 use Rattle.kind.specs.Meanings.{on_hand}
-use Rattle.table.specs.declared.faults.TableFault.{TableFault}
-use Rattle.table.specs.declared.tickets.Ticket.{Ticket}
+use Rattle.table.specs.declared.table_fault.TableFault.{TableFault}
+use Rattle.table.specs.declared.ticket.Ticket.{Ticket}
 use Rattle.table.specs.Faults.{shown}
 use Rattle.runs.specs.Books.{book, counted}
 use Rattle.runs.specs.Events.{Event, at, wrote}
 use Rattle.runs.specs.Events.Call.{Opens, Writes, Commits, Abandons, Offers, Takes}
 use Rattle.runs.specs.Runs.{Group, Ran}
-use Rattle.script.specs.declared.answers.Answer.TheVariants as Answers
-use Rattle.script.specs.declared.commands.Command.{Command}
-use Rattle.script.specs.declared.commands.Command.TheVariants.{Move, Offer, Take, Figure, OpenItem}
+use Rattle.script.specs.declared.answer.Answer.TheVariants as Answers
+use Rattle.script.specs.declared.command.Command.{Command}
+use Rattle.script.specs.declared.command.Command.TheVariants.{Move, Offer, Take, Figure, OpenItem}
 use Rattle.script.specs.Acts.{Reply, open_item_reply, take_reply}
 use Rattle.script.specs.Desk.{DeskView, Performs, table_at}
 use Rattle.script.specs.Lines.{command}

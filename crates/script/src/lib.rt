@@ -1,24 +1,19 @@
 // The line language of the tally: three sites of one group, driven by lines of text.
 #![tactic(auto)]
 
-mod acts;
-mod answers;
-mod commands;
-mod desks;
-mod faults;
-mod makes;
-mod parses;
-mod performs;
-mod prints;
-mod scripts;
-mod sheets;
-mod slots;
+mod act;
+mod answer;
+mod command;
+mod desk;
+mod line_fault;
+mod script;
+mod sheet_line;
+mod slot;
 
-pub use answers::Answer;
-pub use commands::Command;
-pub use desks::Desk;
-pub use faults::LineFault;
-pub use parses::parse;
-pub use scripts::{LONGEST_SCRIPT, run_script};
-pub use sheets::SheetLine;
-pub use slots::Slot;
+pub use answer::Answer;
+pub use command::{Command, parse};
+pub use desk::Desk;
+pub use line_fault::LineFault;
+pub use script::{LONGEST_SCRIPT, run_script};
+pub use sheet_line::SheetLine;
+pub use slot::Slot;

@@ -4,19 +4,19 @@ use Rattle.std.specs.List.{range_with_len, ContainsAt as Has}
 use Rattle.std.proofs.ByRecursion.{All-from_get_or, All-get_or, all_kept_by, All-weaker}
 use Rattle.std.proofs.lemmas.Bool.{and_right, cases_eq, cond_both, cond-false, cond-true, eq-eqb, eqb-true, ne_eqb, true≢false}
 use Rattle.std.proofs.lemmas.List.Elements.{filter_agree}
-use Rattle.action.specs.declared.orders.Action.{Action}
+use Rattle.action.specs.declared.action.Action.{Action}
 use Rattle.action.specs.Order.{Ascending}
 use Rattle.action.proofs.Members.{has_cons_cases, has_none}
 use Rattle.action.proofs.Sequence.{ascending_kept, split_at}
 use Rattle.kind.specs.Meaning.{Meaning}
 use Rattle.kind.specs.Working.{on, working}
 use Rattle.kind.proofs.Workings.{working_append, working_fits}
-use Rattle.row.specs.declared.rows.Row.{Row}
+use Rattle.row.specs.declared.row.Row.{Row}
 use Rattle.row.specs.Entries.{at, no_row}
 use Rattle.row.specs.Passes.{least_of_in}
 use Rattle.row.proofs.Kept.{kept_by_both, kept_by_few}
 use Rattle.row.proofs.RowLaws.{by_row, length_each_row, row_each}
-use Rattle.table.specs.declared.faults.TableFault.{TableFault}
+use Rattle.table.specs.declared.table_fault.TableFault.{TableFault}
 use Rattle.table.specs.Archiving.{Archived, archived, archived_row, is_old, least, olds}
 use Rattle.table.specs.Sound.{Fitting, Sound, Square}
 use Rattle.table.specs.View.{View, entry, row}

@@ -4,7 +4,7 @@ use Rattle.std.proofs.lemmas.List.{get_or-set_other, get_or-set_same, length-set
 use Rattle.std.proofs.lemmas.Bool.{cases_eq, eq-eqb, ne_eqb}
 use Rattle.kind.specs.Meaning.{Meaning}
 use Rattle.kind.specs.Working.{working}
-use Rattle.row.specs.declared.rows.Row.{Row}
+use Rattle.row.specs.declared.row.Row.{Row}
 use Rattle.row.specs.Entries.{each_row, no_row}
 use Rattle.row.proofs.RowLaws.{by_rows}
 use Rattle.table.specs.Archiving.{archived_row, olds}

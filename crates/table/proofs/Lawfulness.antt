@@ -6,11 +6,11 @@ use Rattle.std.proofs.ByRecursion.{All-from_get_or, All-get_or, all_kept_by, All
 use Rattle.std.proofs.lemmas.List.Sums.{count_by-le-length, length-filter}
 use Rattle.std.proofs.lemmas.Bool.{and_parts, eqb-true, leb-true, lt-ltb, ltb-true}
 use Rattle.std.proofs.lemmas.List.{length-append, length-map}
-use Rattle.action.specs.declared.orders.Action.{Action}
+use Rattle.action.specs.declared.action.Action.{Action}
 use Rattle.action.proofs.Sequence.{ascending_kept}
 use Rattle.kind.specs.Meaning.{Meaning}
 use Rattle.kind.specs.Working.{on}
-use Rattle.message.specs.declared.records.Interval.{Interval}
+use Rattle.message.specs.declared.record.Interval.{Interval}
 use Rattle.message.specs.Lawful.{LawfulAction, LawfulInterval, LawfulMessage, LawfulSection, Rising}
 use Rattle.message.specs.Progress.{no_action}
 use Rattle.message.proofs.Sections.{all_both}

@@ -1,14 +1,14 @@
 -- A call of a table has one outcome, whatever it is called with. Assumes nothing.
 use Rattle.std.proofs.Common.{◌≡◌, ℕ, ◌≤◌, List, length, Some, None, Ok, Err, Option, sym, ap, ◌∙◌}
 use Rattle.std.proofs.lemmas.Bool.{false≢true}
-use Rattle.action.specs.declared.refusals.Refusal.{Refusal}
+use Rattle.action.specs.declared.refusal.Refusal.{Refusal}
 use Rattle.kind.specs.Meaning.{Meaning}
 use Rattle.message.specs.Format.{Message, format}
 use Rattle.message.specs.Lawful.{LawfulMessage}
 use Rattle.message.proofs.Once.{refused_once}
 use Rattle.message.proofs.Verdicts.{messages_unique, not_refused}
-use Rattle.table.specs.declared.faults.TableFault.{TableFault}
-use Rattle.table.specs.declared.tickets.Ticket.{Ticket}
+use Rattle.table.specs.declared.table_fault.TableFault.{TableFault}
+use Rattle.table.specs.declared.ticket.Ticket.{Ticket}
 use Rattle.table.specs.Faults.{shown}
 use Rattle.table.specs.Offers.{Offered}
 use Rattle.table.specs.Outcomes.{OneOutcome}

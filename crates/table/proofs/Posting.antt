@@ -2,7 +2,7 @@
 use Rattle.std.proofs.Common.{◌≡◌, ℕ, ◌<◌, Bool, true, false, cond, List, ◌++◌, length, get_or, ap, ◌∙◌, arith}
 use Rattle.kind.specs.Meaning.{Meaning}
 use Rattle.kind.specs.Working.{on, working}
-use Rattle.row.specs.declared.rows.Row.{Row}
+use Rattle.row.specs.declared.row.Row.{Row}
 use Rattle.row.specs.Rows.{posted_rows, raised_row, reworked_rows, stepped_rows}
 use Rattle.row.specs.Entries.{each_row, no_row}
 use Rattle.row.proofs.RowLaws.{by_rows, length_on_rows, length_reworked, length_stepped, raised_from, row_on_rows, row_reworked, row_stepped}

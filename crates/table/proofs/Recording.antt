@@ -3,12 +3,12 @@ use Rattle.std.proofs.Common.{◌≡◌, ℕ, ◌<◌, Bool, true, false, cond, 
 use Rattle.action.specs.Order.{placed}
 use Rattle.kind.specs.Meaning.{Meaning}
 use Rattle.kind.specs.Working.{on, working}
-use Rattle.message.specs.declared.records.Interval.{Interval}
+use Rattle.message.specs.declared.record.Interval.{Interval}
 use Rattle.message.specs.Format.{Message, records, told_intervals}
 use Rattle.message.specs.Walks.{actions_of, intervals_of, record_in, records_in, its_sender}
 use Rattle.message.proofs.Carried.{carried_of, told_intervals_of}
 use Rattle.message.proofs.Walking.{record_begins}
-use Rattle.row.specs.declared.rows.Row.{Row}
+use Rattle.row.specs.declared.row.Row.{Row}
 use Rattle.row.specs.Rows.{raised_row_by, raised_rows, reworked_rows, stepped_rows}
 use Rattle.row.specs.Passes.{new_actions, raised_by}
 use Rattle.row.specs.Entries.{each_row, no_row}

@@ -1,7 +1,7 @@
 -- How the checks of a take end. Assumes nothing.
 use Rattle.std.proofs.Common.{◌≡◌, ℕ, ◌+◌, ◌<◌, ◌≤◌, Bool, true, false, leb, nat_le, List, length, Some, None, Ok, filter, Option, sym, ap, ◌∙◌, arith}
 use Rattle.std.proofs.lemmas.Bool.{le-leb, leb-false, leb-true, lt-leb}
-use Rattle.action.specs.declared.refusals.Refusal.{Refusal}
+use Rattle.action.specs.declared.refusal.Refusal.{Refusal}
 use Rattle.action.specs.Lawful.{by_history, by_table, unless}
 use Rattle.kind.specs.Meaning.{Meaning}
 use Rattle.message.specs.Format.{Message, format, records}

@@ -1,14 +1,14 @@
 -- A table's fault is told by the refusal that it is shown as. Assumes nothing.
 use Rattle.std.proofs.Common.{◌≡◌, ◌==◌, ℕ, cond, sym, refl, ap, ◌∙◌}
-use Rattle.action.specs.declared.refusals.Layer.{Layer}
-use Rattle.action.specs.declared.refusals.Layer.TheVariants.{Reader, History, Table}
-use Rattle.action.specs.declared.refusals.Refusal.{Refusal}
-use Rattle.history.specs.declared.faults.HistoryFault.{HistoryFault}
-use Rattle.history.specs.declared.faults.HistoryFault.TheVariants.{Full, NoPlace}
-use Rattle.message.specs.declared.faults.ReaderFault.{ReaderFault}
-use Rattle.message.specs.declared.faults.ReaderFault.TheVariants.{Cut, Foreign, Broken, Trailing}
-use Rattle.table.specs.declared.faults.TableFault.{TableFault}
-use Rattle.table.specs.declared.faults.TableFault.TheVariants.{AlreadyOpen, NotItsTicket, NoArticle, NoSite, UnknownPair, TooManyWrites, TooLate, Behind, Ahead, Short, InReader, InHistory}
+use Rattle.action.specs.declared.refusal.Layer.{Layer}
+use Rattle.action.specs.declared.refusal.Layer.TheVariants.{Reader, History, Table}
+use Rattle.action.specs.declared.refusal.Refusal.{Refusal}
+use Rattle.history.specs.declared.history_fault.HistoryFault.{HistoryFault}
+use Rattle.history.specs.declared.history_fault.HistoryFault.TheVariants.{Full, NoPlace}
+use Rattle.message.specs.declared.reader_fault.ReaderFault.{ReaderFault}
+use Rattle.message.specs.declared.reader_fault.ReaderFault.TheVariants.{Cut, Foreign, Broken, Trailing}
+use Rattle.table.specs.declared.table_fault.TableFault.{TableFault}
+use Rattle.table.specs.declared.table_fault.TableFault.TheVariants.{AlreadyOpen, NotItsTicket, NoArticle, NoSite, UnknownPair, TooManyWrites, TooLate, Behind, Ahead, Short, InReader, InHistory}
 use Rattle.table.specs.Faults.{shown}
 
 -- the fault of a layer by its number and place; a number that none has is taken for the last one's

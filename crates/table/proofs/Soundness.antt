@@ -5,20 +5,20 @@ use Rattle.std.specs.List.{AllByRecursion}
 use Rattle.std.proofs.ByRecursion.{All-append, All-from_get_or, All-get_or, All-weaker}
 use Rattle.std.proofs.lemmas.List.{get_or_past, get_or-replicate, length-append, length_push}
 use Rattle.std.proofs.lemmas.Bool.{and_parts, cases_eq, cases_lt, false≢true, leb-true, ltb-true}
-use Rattle.action.specs.declared.orders.Action.{Action}
-use Rattle.action.specs.declared.refusals.Refusal.{Refusal}
-use Rattle.action.specs.declared.setups.Setup.{Setup}
+use Rattle.action.specs.declared.action.Action.{Action}
+use Rattle.action.specs.declared.refusal.Refusal.{Refusal}
+use Rattle.action.specs.declared.setup.Setup.{Setup}
 use Rattle.action.specs.Lawful.{unless}
 use Rattle.action.proofs.Sequence.{ascending_append}
 use Rattle.kind.specs.Meaning.{Meaning}
 use Rattle.kind.specs.Working.{on, working}
 use Rattle.kind.proofs.Workings.{on_append, working_append}
 use Rattle.message.specs.Progress.{no_action}
-use Rattle.row.specs.declared.rows.Row.{Row}
+use Rattle.row.specs.declared.row.Row.{Row}
 use Rattle.row.specs.Entries.{at, no_row, raised, start_row}
 use Rattle.row.proofs.RowLaws.{by_row, length_each_row, row_each, row_past}
-use Rattle.table.specs.declared.faults.TableFault.{TableFault}
-use Rattle.table.specs.declared.tickets.Ticket.{Ticket}
+use Rattle.table.specs.declared.table_fault.TableFault.{TableFault}
+use Rattle.table.specs.declared.ticket.Ticket.{Ticket}
 use Rattle.table.specs.Sound.{AllWaiting, Fitting, Sound, Square, Waiting}
 use Rattle.table.specs.Transactions.{Abandoned, Committed, Opened, Wrote, abandoned, committed, committed_row, holds, latest, new_action, next_time, opened, with_transaction, written}
 use Rattle.table.specs.View.{View, entry, fresh, row}

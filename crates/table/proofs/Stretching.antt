@@ -4,7 +4,7 @@ use Rattle.std.specs.List.{ContainsAt as Has, AllByRecursion}
 use Rattle.std.proofs.ByRecursion.{all-has}
 use Rattle.std.proofs.lemmas.Bool.{and_from, and_parts, cases_eq, eq-eqb, eqb-true, ne_eqb}
 use Rattle.action.proofs.Members.{all_from_has, has_kept_by, has_kept_by_parts}
-use Rattle.message.specs.declared.records.Interval.{Interval}
+use Rattle.message.specs.declared.record.Interval.{Interval}
 use Rattle.row.specs.Passes.{raised_by}
 use Rattle.row.specs.Entries.{at, raised}
 use Rattle.row.proofs.Kept.{kept_by_both}

@@ -4,9 +4,9 @@ use Rattle.std.proofs.Common.{◌≡◌, ℕ, ◌+◌, ◌<◌, ◌≤◌, max, 
 use Rattle.std.specs.List.{ContainsAt as Has, AllByRecursion}
 use Rattle.std.proofs.ByRecursion.{All-from_get_or, All-get_or, all-has, all_kept_by, All-weaker, kept_by_passes}
 use Rattle.std.proofs.lemmas.Bool.{cases_eq, leb-true, ltb-false, ltb-true}
-use Rattle.action.specs.declared.orders.Action.{Action}
-use Rattle.action.specs.declared.refusals.Refusal.{Refusal}
-use Rattle.action.specs.declared.setups.Setup.{Setup}
+use Rattle.action.specs.declared.action.Action.{Action}
+use Rattle.action.specs.declared.refusal.Refusal.{Refusal}
+use Rattle.action.specs.declared.setup.Setup.{Setup}
 use Rattle.action.specs.Lawful.{by_history, unless}
 use Rattle.action.specs.Order.{Ascending}
 use Rattle.action.proofs.Placing.{folded_placed_all, folded_placed_ranked, length_folded_placed}
@@ -15,15 +15,15 @@ use Rattle.action.proofs.Ranks.{Ranked, ranked_unless}
 use Rattle.kind.specs.Meaning.{Meaning}
 use Rattle.kind.specs.Working.{knows_action, on, working}
 use Rattle.kind.proofs.Workings.{working_placed}
-use Rattle.message.specs.declared.records.Interval.{Interval}
+use Rattle.message.specs.declared.record.Interval.{Interval}
 use Rattle.message.specs.Format.{Message, Section, carried, records, told_intervals}
 use Rattle.message.specs.Lawful.{Carries, LawfulAction, LawfulInterval, LawfulMessage, LawfulSection}
 use Rattle.message.specs.Found.{first_place}
 use Rattle.message.proofs.Carried.{carried_lawful, carried_ranked, carried_within, none_found, told_intervals_lawful, told_intervals_of}
-use Rattle.row.specs.declared.rows.Row.{Row}
+use Rattle.row.specs.declared.row.Row.{Row}
 use Rattle.row.specs.Entries.{at, no_row}
 use Rattle.row.proofs.RowLaws.{by_row, length_each_row, row_each}
-use Rattle.table.specs.declared.faults.TableFault.{TableFault}
+use Rattle.table.specs.declared.table_fault.TableFault.{TableFault}
 use Rattle.table.specs.Sound.{AllWaiting, Fitting, Sound, Square}
 use Rattle.table.specs.Taking.{Took, highest, is_ahead, is_behind, is_new, news, take_refusal, taken, taken_history, taken_row, unless_found}
 use Rattle.table.specs.View.{View, entry, row}

@@ -3,8 +3,8 @@ use Rattle.std.proofs.Common.{◌≡◌, ℕ, suc, ◌+◌, ◌<◌, ◌≤◌, 
 use Rattle.std.specs.List.{ContainsAt as Has, AllByRecursion}
 use Rattle.std.proofs.ByRecursion.{all-has, all_kept_by, All-weaker}
 use Rattle.std.proofs.lemmas.Bool.{eq-eqb}
-use Rattle.action.specs.declared.orders.Action.{Action}
-use Rattle.action.specs.declared.setups.Setup.{Setup}
+use Rattle.action.specs.declared.action.Action.{Action}
+use Rattle.action.specs.declared.setup.Setup.{Setup}
 use Rattle.action.specs.Order.{Apart, Ascending, Distinct}
 use Rattle.action.proofs.Members.{all_from_has, has_first, has_kept_by, has_later}
 use Rattle.action.proofs.Sequence.{leads_later}

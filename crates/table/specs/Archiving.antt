@@ -1,14 +1,14 @@
 -- What archive does to a table. Assumes nothing.
 use Rattle.std.specs.Prelude.{◌≡◌, ℕ, Bool, cond, not, List, length, Some, None, Ok, Err, filter, Option, Result, ◌==◌, nat_lt}
-use Rattle.action.specs.declared.orders.Action.{Action}
-use Rattle.action.specs.declared.refusals.Refusal.{Refusal}
+use Rattle.action.specs.declared.action.Action.{Action}
+use Rattle.action.specs.declared.refusal.Refusal.{Refusal}
 use Rattle.action.specs.Lawful.{by_table, unless}
 use Rattle.kind.specs.Meaning.{Meaning}
 use Rattle.kind.specs.Working.{working}
-use Rattle.row.specs.declared.rows.Row.{Row}
+use Rattle.row.specs.declared.row.Row.{Row}
 use Rattle.row.specs.Passes.{is_up_to, least_in}
 use Rattle.row.specs.Entries.{each_row}
-use Rattle.table.specs.declared.faults.TableFault.{TableFault}
+use Rattle.table.specs.declared.table_fault.TableFault.{TableFault}
 use Rattle.table.specs.Faults.{shown}
 use Rattle.table.specs.View.{View}
 

@@ -1,11 +1,11 @@
 -- A table's fault by number, place and layer. Assumes nothing.
 use Rattle.std.specs.Prelude.{◌≡◌, Bool, true, false, Ok, Err, Result}
-use Rattle.action.specs.declared.refusals.Refusal.{Refusal}
+use Rattle.action.specs.declared.refusal.Refusal.{Refusal}
 use Rattle.action.specs.Lawful.{by_table}
 use Rattle.history.specs.Faults as HistoryFaults
 use Rattle.message.specs.Faults as ReaderFaults
-use Rattle.table.specs.declared.faults.TableFault.{TableFault}
-use Rattle.table.specs.declared.faults.TableFault.TheVariants.{AlreadyOpen, NotItsTicket, NoArticle, NoSite, UnknownPair, TooManyWrites, TooLate, Behind, Ahead, Short, InReader, InHistory}
+use Rattle.table.specs.declared.table_fault.TableFault.{TableFault}
+use Rattle.table.specs.declared.table_fault.TableFault.TheVariants.{AlreadyOpen, NotItsTicket, NoArticle, NoSite, UnknownPair, TooManyWrites, TooLate, Behind, Ahead, Short, InReader, InHistory}
 
 -- a fault of the reader or of the history is handed on whole
 abbrev pub shown : TableFault → Refusal

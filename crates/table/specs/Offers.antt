@@ -1,14 +1,14 @@
 -- What offer writes. Assumes nothing.
 use Rattle.std.specs.Prelude.{◌≡◌, ℕ, Bool, ◌&&◌, List, [], ◌∷◌, map, length, Some, None, Ok, Err, filter, Option, Result, ◌==◌, nat_le, nat_lt}
 use Rattle.std.specs.List.{range_with_len}
-use Rattle.action.specs.declared.orders.Action.{Action}
-use Rattle.action.specs.declared.refusals.Refusal.{Refusal}
+use Rattle.action.specs.declared.action.Action.{Action}
+use Rattle.action.specs.declared.refusal.Refusal.{Refusal}
 use Rattle.action.specs.Lawful.{by_table, unless}
 use Rattle.kind.specs.Meaning.{Meaning}
-use Rattle.message.specs.declared.records.Interval.{Interval}
+use Rattle.message.specs.declared.record.Interval.{Interval}
 use Rattle.message.specs.Buffer.{overwritten}
 use Rattle.message.specs.Format.{Message, Section, format}
-use Rattle.table.specs.declared.faults.TableFault.{TableFault}
+use Rattle.table.specs.declared.table_fault.TableFault.{TableFault}
 use Rattle.table.specs.Faults.{shown}
 use Rattle.table.specs.View.{View, entry}
 

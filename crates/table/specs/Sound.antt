@@ -2,8 +2,8 @@
 use Rattle.std.specs.Prelude.{◌≡◌, ℕ, suc, ◌+◌, ◌<◌, ◌≤◌, true, false, List, [], ◌∷◌, length, FitsSigned}
 use Rattle.std.specs.Int.{w32, w64}
 use Rattle.std.specs.List.{AllByRecursion}
-use Rattle.action.specs.declared.orders.Action.{Action}
-use Rattle.action.specs.declared.setups.Setup.{Setup}
+use Rattle.action.specs.declared.action.Action.{Action}
+use Rattle.action.specs.declared.setup.Setup.{Setup}
 use Rattle.action.specs.Order.{Ascending}
 use Rattle.kind.specs.Meaning.{Meaning}
 use Rattle.kind.specs.Working.{knows_action, on, working}

@@ -1,21 +1,21 @@
 -- What take does to a table. Assumes nothing.
 use Rattle.std.specs.Prelude.{◌≡◌, ℕ, ◌+◌, Bool, true, false, ◌&&◌, List, length, Some, None, Ok, Err, fold, filter, Option, Result, ◌==◌, nat_eq, nat_le}
-use Rattle.action.specs.declared.orders.Action.{Action}
-use Rattle.action.specs.declared.refusals.Refusal.{Refusal}
+use Rattle.action.specs.declared.action.Action.{Action}
+use Rattle.action.specs.declared.refusal.Refusal.{Refusal}
 use Rattle.action.specs.Lawful.{by_history, by_table, unless}
 use Rattle.action.specs.Order.{placed}
 use Rattle.kind.specs.Meaning.{Meaning}
-use Rattle.message.specs.declared.records.Interval.{Interval}
-use Rattle.message.specs.declared.faults.ReaderFault.{ReaderFault}
+use Rattle.message.specs.declared.record.Interval.{Interval}
+use Rattle.message.specs.declared.reader_fault.ReaderFault.{ReaderFault}
 use Rattle.message.specs.Faults as ReaderFaults
 use Rattle.message.specs.Checks.{Refused}
 use Rattle.message.specs.Format.{Message, carried, format, records, told_intervals}
 use Rattle.message.specs.Lawful.{LawfulMessage}
 use Rattle.message.specs.Found.{first_place}
-use Rattle.row.specs.declared.rows.Row.{Row}
+use Rattle.row.specs.declared.row.Row.{Row}
 use Rattle.row.specs.Passes.{is_ahead_in, is_behind_in, is_new_in, latest_to, raised_by}
 use Rattle.row.specs.Entries.{each_row}
-use Rattle.table.specs.declared.faults.TableFault.{TableFault}
+use Rattle.table.specs.declared.table_fault.TableFault.{TableFault}
 use Rattle.table.specs.Faults.{shown}
 use Rattle.table.specs.Transactions.{figure_after}
 use Rattle.table.specs.View.{View}

@@ -2,22 +2,19 @@
 // transactions of its own and by messages from the others.
 #![tactic(auto)]
 
-mod answers;
-mod archives;
-mod checks;
-mod commits;
-mod emits;
-mod faults;
-mod makes;
-mod offers;
-mod pendings;
+mod archive;
+mod commit;
+mod offer;
 mod state;
-mod stores;
-mod tables;
-mod takes;
-mod tickets;
-mod transactions;
+mod store;
+mod table;
+mod table_fault;
+mod take;
+mod ticket;
+mod transaction;
+mod transaction_message;
 
-pub use faults::TableFault;
-pub use tables::Table;
-pub use tickets::Ticket;
+pub use state::MOST_WRITES;
+pub use table::Table;
+pub use table_fault::TableFault;
+pub use ticket::Ticket;

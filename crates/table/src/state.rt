@@ -1,14 +1,24 @@
-ghost use Rattle.std.specs.Prelude.{◌≡◌, ◌≤◌, length};
-ghost use Rattle.message.specs.declared.records.Header.{Header as AHeader};
+// What several calls check first.
+ghost use Rattle.std.specs.Prelude.{◌≡◌, ◌≤◌, length, ◌+◌, not, nat_lt};
+ghost use Rattle.std.specs.Option.{is_some};
+ghost use Rattle.message.specs.declared.record.Header.{Header as AHeader};
+ghost use Rattle.message.specs.Buffer.{overwritten};
+ghost use Rattle.message.specs.Format.{record_bytes};
 ghost use Rattle.table.specs.Transactions.{holds};
 ghost use Rattle.table.specs.View.{bare, written_in};
+ghost use Rattle.table.specs.Faults.{Passes};
 
-use crate::tickets::Ticket;
-use action::{Action, MOST_WRITES};
+use crate::table_fault::TableFault;
+use crate::ticket::Ticket;
+use action::Action;
 use arrayvec::ArrayVec;
+use history::History;
 use kind::Kind;
-use message::Header;
+use message::{Header, Record, put};
 use row::Ledger;
+
+/// The most writes that a transaction may have.
+pub const MOST_WRITES: usize = 16;
 
 // What an open transaction has written so far.
 pub(crate) type Pending = ArrayVec<Action, MOST_WRITES>;
@@ -63,4 +73,44 @@ impl State {
             sections,
         }
     }
+
+    // No transaction is open.
+    pub(crate) fn check_closed(&self) -> Result<(), TableFault>
+        ensures { Passes (not (is_some self.now.transaction)) TableFault.AlreadyOpen result }
+    {
+        if self.transaction.is_some() {
+            return Err(TableFault::AlreadyOpen);
+        }
+        Ok(())
+    }
+
+    // The article is one of the group's.
+    pub(crate) fn check_article(&self, article: u8) -> Result<(), TableFault>
+        ensures { Passes (nat_lt article self.now.ledger.setup.articles) TableFault.NoArticle result }
+    {
+        if article >= self.ledger.setup.articles {
+            return Err(TableFault::NoArticle);
+        }
+        Ok(())
+    }
+
+    // The site is one of the group's.
+    pub(crate) fn check_site(&self, site: u8) -> Result<(), TableFault>
+        ensures { Passes (nat_lt site self.now.ledger.setup.sites) TableFault.NoSite result }
+    {
+        if site >= self.ledger.setup.sites {
+            return Err(TableFault::NoSite);
+        }
+        Ok(())
+    }
+}
+
+// Puts a record that is known to fit, and answers the place after it. The place is no field beside the
+// buffer: a struct that borrows the buffer has to say in each contract what it leaves of it.
+pub(crate) fn emit(buffer: &mut [u8], at: usize, record: Record) -> usize
+    requires { at + length (record_bytes «record») ≤ length buffer.old }
+    ensures end { result ≡ at + length (record_bytes «record») }
+    ensures bytes { buffer.new ≡ overwritten buffer.old at (record_bytes «record») }
+{
+    put(buffer, at, record).unwrap()
 }

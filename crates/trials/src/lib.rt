@@ -2,10 +2,10 @@
 // histories by their names.
 #![tactic(auto)]
 
-mod chances;
-mod histories;
-mod posts;
+mod dice;
+mod keeping;
+mod movement;
 
-pub use chances::Dice;
-pub use histories::{Keeping, Made, NoJob};
-pub use posts::{Movement, post};
+pub use dice::Dice;
+pub use keeping::{Keeping, Made, NoJob};
+pub use movement::{Movement, post};

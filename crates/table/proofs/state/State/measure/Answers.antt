@@ -3,7 +3,7 @@ use Rattle.std.proofs.lemmas.List.{length-append, length_push}
 use Rattle.std.proofs.lemmas.Bool.{le-ltb, lt-ltb}
 use Rattle.kind.specs.Working.{on}
 use Rattle.message.specs.Format.{section_format}
-use Rattle.table.specs.declared.pendings.Size.{Size}
+use Rattle.table.specs.declared.transaction_message.Size.{Size}
 use Rattle.table.specs.Transactions.{is_written, transaction_section}
 use Rattle.table.specs.View.{bare}
 use Rattle.table.proofs.Sections.{below, below_more, below_same, length_transaction, length_transaction_section, wrote, wrote_more, wrote_same}

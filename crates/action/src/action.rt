@@ -1,0 +1,90 @@
+ghost use Rattle.std.specs.Prelude.{◌≡◌};
+ghost use Rattle.action.specs.Bytes.{action_bytes, action_of};
+ghost use Rattle.action.specs.Order.{precedes};
+
+/// The latest time that an action may have. No action has time 0.
+pub const LATEST_TIME: u32 = 4_000_000_000;
+
+/// How many bytes an action's record has, in a message and in a strip.
+pub const ACTION_BYTES: usize = 16;
+
+/// A movement of one article, as the site that committed it (its coordinator) wrote it.
+#[derive(Clone, Copy, Debug, Default, PartialEq, Eq)]
+pub struct Action {
+    pub coordinator: u8,
+    pub time: u32,
+    /// The time of the first action of its transaction.
+    pub transaction: u32,
+    pub article: u8,
+    /// What is done, by the number that the table's kind of figure has for it.
+    pub operation: u8,
+    pub amount: i32,
+}
+
+impl Action {
+    /// Whether the action comes first in the order by which figures are worked (docs/RULES.md, section 3).
+    pub fn precedes(&self, other: &Action) -> bool
+        ensures { result ≡ precedes self.now other.now }
+    {
+        (self.time, self.coordinator, self.article) < (other.time, other.coordinator, other.article)
+    }
+
+    /// The action as record A of a message (docs/MESSAGES.md, section 2).
+    pub fn to_bytes(&self) -> [u8; ACTION_BYTES]
+        ensures { result ≡ action_bytes self.now }
+    {
+        let [t3, t2, t1, t0] = self.time.to_be_bytes();
+        let [n3, n2, n1, n0] = self.transaction.to_be_bytes();
+        let [a3, a2, a1, a0] = self.amount.to_be_bytes();
+        [
+            b'A',
+            self.coordinator,
+            t3,
+            t2,
+            t1,
+            t0,
+            n3,
+            n2,
+            n1,
+            n0,
+            self.article,
+            self.operation,
+            a3,
+            a2,
+            a1,
+            a0,
+        ]
+    }
+
+    /// The action that a record stands for, whatever its first byte.
+    pub fn from_bytes(bytes: &[u8; ACTION_BYTES]) -> Action
+        ensures { result ≡ action_of bytes.now }
+    {
+        let [
+            _,
+            coordinator,
+            t3,
+            t2,
+            t1,
+            t0,
+            n3,
+            n2,
+            n1,
+            n0,
+            article,
+            operation,
+            a3,
+            a2,
+            a1,
+            a0,
+        ] = *bytes;
+        Action {
+            coordinator,
+            time: u32::from_be_bytes([t3, t2, t1, t0]),
+            transaction: u32::from_be_bytes([n3, n2, n1, n0]),
+            article,
+            operation,
+            amount: i32::from_be_bytes([a3, a2, a1, a0]),
+        }
+    }
+}

@@ -1,0 +1,224 @@
+// The book: what a reader of the lines writes down, from who called what and whether it was granted.
+use crate::walk::FoundInterval;
+use action::Action;
+use kind::Kind;
+use std::alloc::{AllocError, Global};
+use std::collections::BTreeMap;
+use trials::Movement;
+
+// Where an action stands in the order of actions: by time, then by coordinator, then by article. It is
+// written here a second time, so that the book leans on no order of the library's.
+type Rank = (u32, u8, u8);
+
+fn rank(action: &Action) -> Rank {
+    (action.time, action.coordinator, action.article)
+}
+
+// What the book has of one site.
+#[derive(Drop)]
+struct Page {
+    // By article and coordinator: up to what time the site has the coordinator's actions, where it has any.
+    reach: BTreeMap<(u8, u8), u32>,
+    // The actions of its open transaction, in the order of the writes.
+    pending: Vec<Action>,
+    // How many actions it has archived.
+    archived: usize,
+}
+
+impl Page {
+    fn new(heap: Global) -> Page {
+        Page {
+            reach: BTreeMap::new(heap),
+            pending: Vec::new(heap),
+            archived: 0,
+        }
+    }
+
+    fn reach(&self, article: u8, coordinator: u8) -> u32 {
+        self.reach
+            .get(&(article, coordinator))
+            .copied()
+            .unwrap_or(0)
+    }
+
+    fn raise(&mut self, article: u8, coordinator: u8, to: u32) -> Result<(), AllocError> {
+        let reach = self.reach.entry((article, coordinator))?.or_insert(0);
+        *reach = (*reach).max(to);
+        Ok(())
+    }
+}
+
+// What the granted calls come to: what each site has, and what has been committed.
+#[derive(Drop)]
+pub(crate) struct Book {
+    pages: Vec<Page>,
+    // Every action of a granted commit, in the order of actions.
+    pub(crate) committed: BTreeMap<Rank, Action>,
+}
+
+impl Book {
+    pub(crate) fn new(heap: Global, sites: u8) -> Result<Book, AllocError> {
+        Ok(Book {
+            pages: (0..sites).map(|_| Page::new(heap)).collect(heap)?,
+            committed: BTreeMap::new(heap),
+        })
+    }
+
+    fn page(&self, site: u8) -> Option<&Page> {
+        self.pages.get(usize::from(site))
+    }
+
+    fn page_mut(&mut self, site: u8) -> Option<&mut Page> {
+        self.pages.get_mut(usize::from(site))
+    }
+
+    pub(crate) fn reach(&self, site: u8, article: u8, coordinator: u8) -> u32 {
+        self.page(site)
+            .map_or(0, |page| page.reach(article, coordinator))
+    }
+
+    // The greatest time that the site has reached.
+    pub(crate) fn greatest(&self, site: u8) -> u32 {
+        self.page(site)
+            .map_or(0, |page| page.reach.values().copied().max().unwrap_or(0))
+    }
+
+    // How many writes the site's open transaction has.
+    pub(crate) fn writes(&self, site: u8) -> usize {
+        self.page(site).map_or(0, |page| page.pending.len())
+    }
+
+    // A write was granted; answers the time that it has to have.
+    pub(crate) fn write(&mut self, site: u8, movement: Movement) -> Result<u32, AllocError> {
+        let greatest = self.greatest(site);
+        let before = u32::try_from(self.writes(site)).unwrap_or(0);
+        let time = greatest.wrapping_add(before).wrapping_add(1);
+        if let Some(page) = self.page_mut(site) {
+            page.pending.push(Action {
+                coordinator: site,
+                time,
+                transaction: greatest.wrapping_add(1),
+                article: movement.article,
+                operation: movement.operation,
+                amount: movement.amount,
+            })?;
+        }
+        Ok(time)
+    }
+
+    // An abandon was granted.
+    pub(crate) fn abandon(&mut self, site: u8) {
+        if let Some(page) = self.page_mut(site) {
+            page.pending.clear();
+        }
+    }
+
+    // Puts an action among the committed ones, which its coordinator reaches. Answers whether no other has
+    // its coordinator and time.
+    fn enter(&mut self, action: Action) -> Result<bool, AllocError> {
+        let is_new = !self.committed.values().any(|other| other.coordinator == action.coordinator
+            && other.time == action.time);
+        self.committed.insert(rank(&action), action)?;
+        if let Some(page) = self.page_mut(action.coordinator) {
+            page.raise(action.article, action.coordinator, action.time)?;
+        }
+        Ok(is_new)
+    }
+
+    // A commit was granted: the site's pending actions are committed. Answers whether they are all new.
+    pub(crate) fn commit(&mut self, site: u8) -> Result<bool, AllocError> {
+        let Some(page) = self.page_mut(site) else {
+            return Ok(true);
+        };
+        let pending = std::mem::try_take(&mut page.pending)?;
+        let mut are_new = true;
+        for action in pending {
+            are_new = self.enter(action)? && are_new;
+        }
+        Ok(are_new)
+    }
+
+    // A take was granted: the site reaches what the message's intervals go up to.
+    pub(crate) fn take(&mut self, site: u8, stretches: &[FoundInterval]) -> Result<(), AllocError> {
+        let Some(page) = self.page_mut(site) else {
+            return Ok(());
+        };
+        for stretch in stretches {
+            page.raise(stretch.article, stretch.site, stretch.to)?;
+        }
+        Ok(())
+    }
+
+    // Does some interval begin above what the site has?
+    pub(crate) fn is_behind(&self, site: u8, stretches: &[FoundInterval]) -> bool {
+        stretches.iter().any(|stretch| stretch.from
+            > self.reach(site, stretch.article, stretch.site))
+    }
+
+    // Does the site have the action?
+    pub(crate) fn reaches(&self, site: u8, action: &Action) -> bool {
+        action.time <= self.reach(site, action.article, action.coordinator)
+    }
+
+    // How many committed actions the site would come to have by the intervals.
+    pub(crate) fn news(&self, site: u8, stretches: &[FoundInterval]) -> usize {
+        self.committed
+            .values()
+            .filter(|action| !self.reaches(site, action) && is_carried(action, stretches))
+            .count()
+    }
+
+    // How many committed actions the site has.
+    fn reached(&self, site: u8) -> usize {
+        self.committed
+            .values()
+            .filter(|action| self.reaches(site, action))
+            .count()
+    }
+
+    // An archive was granted, and answered this count.
+    pub(crate) fn archive(&mut self, site: u8, count: usize) {
+        if let Some(page) = self.page_mut(site) {
+            page.archived = page.archived.wrapping_add(count);
+        }
+    }
+
+    // How many actions the site's history has.
+    pub(crate) fn kept(&self, site: u8) -> usize {
+        let archived = self.page(site).map_or(0, |page| page.archived);
+        self.reached(site).saturating_sub(archived)
+    }
+
+    // Has anything been committed on the article?
+    pub(crate) fn has_moved(&self, article: u8) -> bool {
+        self.committed
+            .values()
+            .any(|action| action.article == article)
+    }
+
+    // Does the site have every committed action on the article?
+    pub(crate) fn has_all(&self, site: u8, article: u8) -> bool {
+        self.committed.values().all(|action| action.article != article
+            || self.reaches(site, action))
+    }
+
+    // Works an article's figure at a site, from the committed actions that it has, each once and in order.
+    pub(crate) fn figure<K: Kind>(&self, site: u8, article: u8) -> i64 {
+        self.committed
+            .values()
+            .filter(|action| action.article == article && self.reaches(site, action))
+            .fold(
+                K::START,
+                |figure, action| K::step(figure, action.operation, action.amount),
+            )
+    }
+}
+
+// Does some interval go up to the action?
+fn is_carried(action: &Action, stretches: &[FoundInterval]) -> bool {
+    stretches.iter().any(|stretch| {
+        stretch.article == action.article
+            && stretch.site == action.coordinator
+            && action.time <= stretch.to
+    })
+}

@@ -1,0 +1,235 @@
+// Bytes that no table wrote: a damaged copy of a message, or noise. Every table has to refuse them, and the
+// damage says by which number. Nothing is forged that a table could believe, such as a peer's interval that
+// goes further than the peer.
+ghost use Rattle.std.specs.Prelude.{◌≤◌, IfSome};
+
+use crate::book::Book;
+use crate::due::Due;
+use crate::run::Run;
+use crate::walk::stretches;
+use kind::Kind;
+use std::alloc::AllocError;
+use trials::Dice;
+
+// Where in a message the header's last two fields stand, the first section's head, and its first interval.
+const SENDER: usize = 4;
+
+const SECTIONS: usize = 5;
+
+const HEAD: usize = 6;
+
+const FIRST: usize = 11;
+
+// Where the fields of a section's head stand in it. How many actions there are takes two bytes, of which this
+// is the low one.
+const ABOUT: usize = 1;
+
+const INTERVALS: usize = 2;
+
+const ACTIONS: usize = 4;
+
+// Where the fields of an interval stand in it.
+const SITE: usize = 1;
+
+const FROM: usize = 2;
+
+const TO: usize = 6;
+
+// Where the fields of an action stand in it.
+const TIME: usize = 2;
+
+const TRANSACTION: usize = 6;
+
+const ARTICLE: usize = 10;
+
+const OPERATION: usize = 11;
+
+// How many bytes an interval and an action have.
+const INTERVAL: usize = 10;
+
+const ACTION: usize = 16;
+
+// The copy of a message that is damaged, and the dice that say how.
+#[derive(Drop)]
+struct Forger<'a> {
+    copy: &'a mut Vec<u8>,
+    dice: &'a mut Dice,
+}
+
+impl Forger<'_> {
+    fn byte_at(&self, at: usize) -> u8 {
+        self.copy.get(at).copied().unwrap_or(0)
+    }
+
+    fn patch(&mut self, at: usize, byte: u8) {
+        if let Some(old) = self.copy.get_mut(at) {
+            *old = byte;
+        }
+    }
+
+    // Makes another byte of the one at the place.
+    fn change(&mut self, at: usize) {
+        let old = self.byte_at(at);
+        let flips = self.dice.byte(255) + 1;
+        self.patch(at, old ^ flips);
+    }
+
+    // Writes a time at a place.
+    fn patch_time(&mut self, at: usize, time: u32) {
+        for (place, byte) in self.copy.iter_mut().skip(at).zip(time.to_be_bytes()) {
+            *place = byte;
+        }
+    }
+
+    // Noise that does not begin as a message does.
+    fn make_noise(&mut self) -> Result<Due, AllocError> {
+        self.copy.clear();
+        for _ in 0..self.dice.byte(100) {
+            self.copy.push(self.dice.byte(255))?;
+        }
+        let first = self.dice.byte(b'H');
+        self.patch(0, first);
+        Ok(Due::Cut)
+    }
+
+    // The message without its end.
+    fn cut(&mut self) -> Due {
+        let length = u32::try_from(self.copy.len()).unwrap_or(0);
+        // Not `usize::from`, which takes no 32 bits.
+        self.copy.truncate(self.dice.below(length) as usize);
+        Due::Cut
+    }
+
+    // The message with bytes after its end.
+    fn append(&mut self) -> Result<Due, AllocError> {
+        let more = usize::from(self.dice.byte(20) + 1);
+        let length = self.copy.len().wrapping_add(more);
+        self.copy.resize(length, 0)?;
+        Ok(Due::Trailing)
+    }
+
+    // Damages the header: its letter, its group or kind, its sender, or how many sections it has.
+    fn spoil_header(&mut self, sites: u8) -> Due {
+        match self.dice.byte(6) {
+            0 => {
+                self.change(0);
+                Due::Cut
+            }
+            at @ 1..=3 => {
+                self.change(usize::from(at));
+                Due::Foreign
+            }
+            4 => {
+                let sender = sites.wrapping_add(self.dice.byte(200));
+                self.patch(SENDER, sender);
+                Due::Broken
+            }
+            _ => {
+                let sections = match self.dice.byte(200) {
+                    0 => 0,
+                    more => more + 16,
+                };
+                self.patch(SECTIONS, sections);
+                Due::Broken
+            }
+        }
+    }
+
+    // Damages the first section's head or its first interval.
+    fn spoil_section(&mut self, sites: u8, articles: u8) -> Due {
+        match self.dice.byte(7) {
+            0 => {
+                self.change(HEAD);
+                return Due::Cut;
+            }
+            1 => {
+                let about = articles.wrapping_add(self.dice.byte(150));
+                self.patch(HEAD + ABOUT, about);
+            }
+            2 => self.patch(HEAD + INTERVALS, 0),
+            3 => {
+                self.change(FIRST);
+                return Due::Cut;
+            }
+            4 => {
+                let site = sites.wrapping_add(self.dice.byte(200));
+                self.patch(FIRST + SITE, site);
+            }
+            5 => self.patch_time(FIRST + FROM, u32::MAX),
+            _ => self.patch_time(FIRST + TO, 4_000_000_001),
+        }
+        Due::Broken
+    }
+
+    // Where the first section's first action stands; `None` where it has none.
+    fn first_action(&self) -> Option<usize>
+        ensures { IfSome result (λ at. at ≤ 2561) }
+    {
+        let intervals = usize::from(self.byte_at(HEAD + INTERVALS));
+        let at = FIRST + INTERVAL * intervals;
+        (self.byte_at(at) == b'A').then_some(at)
+    }
+
+    // Damages the first action: its time, its transaction, its article or its operation.
+    fn spoil_action(&mut self) -> Due {
+        let Some(at) = self.first_action() else {
+            return self.cut();
+        };
+        match self.dice.byte(4) {
+            0 => self.patch_time(at + TIME, 0),
+            1 => self.patch_time(at + TRANSACTION, 0),
+            2 => self.change(at + ARTICLE),
+            _ => self.patch(at + OPERATION, 0),
+        }
+        Due::Broken
+    }
+
+    // Says the last action of a message of one section twice. There are never so many actions that the low
+    // byte of their number is full.
+    fn double_action(&mut self) -> Result<Due, AllocError> {
+        if self.first_action().is_none() || self.byte_at(SECTIONS) != 1 {
+            return Ok(self.cut());
+        }
+        let last = self.copy.len().saturating_sub(ACTION);
+        self.copy.extend_from_within(last..)?;
+        let count = self.byte_at(HEAD + ACTIONS);
+        self.patch(HEAD + ACTIONS, count.wrapping_add(1));
+        Ok(Due::Broken)
+    }
+
+    // Has the message say of the taking site that it has done more than it has.
+    fn claim(&mut self, site: u8, book: &Book) -> Result<Due, AllocError> {
+        let told = stretches(*self.copy.allocator(), self.copy)?;
+        let Some(own) = told.iter().find(|stretch| stretch.site == site) else {
+            return Ok(self.cut());
+        };
+        let done = book.reach(site, own.article, site);
+        self.patch_time(own.at.wrapping_add(TO), done.wrapping_add(1));
+        if book.is_behind(site, &told) {
+            Ok(Due::Behind)
+        } else {
+            Ok(Due::Ahead)
+        }
+    }
+}
+
+impl<K: Kind + Drop, J: Kind + Drop> Run<K, J> {
+    // Damages the copy of a message that the site is to take, and answers the refusal that is due.
+    pub(crate) fn forge(&mut self, site: u8, copy: &mut Vec<u8>) -> Result<Due, AllocError> {
+        let dice = &mut self.dice;
+        let mut forger = Forger { copy, dice };
+        if forger.copy.is_empty() {
+            return forger.make_noise();
+        }
+        Ok(match forger.dice.byte(10) {
+            0 | 1 => forger.claim(site, &self.book)?,
+            2 => forger.make_noise()?,
+            3 => forger.cut(),
+            4 => forger.append()?,
+            5 => forger.spoil_action(),
+            6 => forger.double_action()?,
+            7 => forger.spoil_section(self.sites, self.articles),
+            _ => forger.spoil_header(self.sites),
+        })
+    }
+}

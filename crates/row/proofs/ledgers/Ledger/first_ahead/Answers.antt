@@ -1,8 +1,0 @@
-use Rattle.std.proofs.Common.{rules, tests}
-use Rattle.row.specs.Passes.{is_ahead_in}
-use Rattle.row.proofs.Finding.{first_passing}
-use Rattle.row.proofs.ledgers.Ledger.first_ahead.Goals as goal
-
-pub returns : goal.returns
-returns c =
-    first_passing (is_ahead_in c.args.self.now.rows c.args.self.now.setup.own) c.args.bytes.now _ c.find.result c.new.ensures.left c.find.ensures.ran (λ s b q k. search (rules, tests)) (search rules)
