@@ -70,7 +70,7 @@ pub(crate) fn take_slot<H: History>(
 }
 
 // Does what the command asks, at the table of its site.
-fn act_at<H: History>(
+pub(crate) fn act_at<H: History>(
     table: &mut Table<OnHand, H>,
     slots: &mut [Slot; 10],
     command: Command,

@@ -6,6 +6,7 @@ ghost use Rattle.script.specs.Acts.{reply_of};
 ghost use Rattle.script.specs.Lines.{Placed};
 ghost use Rattle.script.specs.Sheets.{sheet_bytes, sheet_of};
 
+use crate::act::act_at;
 use crate::answer::{Answer, print};
 use crate::command::{Command, parse};
 use crate::line_fault::LineFault;
