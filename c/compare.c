@@ -11,7 +11,17 @@
 #include <stdio.h>
 #include <stdlib.h>
 
-/* The next bytes, in memory of just their length; NULL where there are none, or too few. */
+/* The header's names have the numbers that docs/C.md gives them. */
+_Static_assert(SITE_TABLES_KIND_ON_HAND == 1, "on-hand");
+_Static_assert(SITE_TABLES_KIND_FLAGS == 2, "flags");
+_Static_assert(SITE_TABLES_KIND_PRICE == 3, "price");
+_Static_assert(SITE_TABLES_NO_TABLE == -1, "no table");
+_Static_assert(SITE_TABLES_CUT == -9, "cut");
+_Static_assert(SITE_TABLES_FOREIGN == -10, "foreign");
+_Static_assert(SITE_TABLES_BROKEN == -11, "broken");
+_Static_assert(SITE_TABLES_TRAILING == -12, "trailing");
+
+/* The next bytes, in memory of exactly their length; NULL where there are none, or too few. */
 static uint8_t *next(FILE *file, size_t length)
 {
     uint8_t *bytes = length == 0 ? NULL : malloc(length);
