@@ -9,7 +9,7 @@ pub enum Refusal {
     UnknownPair,
     TooManyWrites,
     TooLate,
-    /// A record is not there whole, or not of the kind due, at this offset.
+    /// At this offset a record is due that is not there, or not whole.
     NotDue(usize),
     Foreign,
     /// The record at this offset breaks a field rule.
@@ -20,7 +20,7 @@ pub enum Refusal {
     Gap(usize),
     /// The interval at this offset claims own actions that never were.
     NeverCommitted(usize),
-    /// The buffer is shorter than the offer, which has this length.
+    /// The buffer has too few bytes for the offer, which has so many.
     Short(usize),
     /// The history, which has this capacity, has too few free places.
     Full(usize),

@@ -154,7 +154,8 @@ has_folded_placed_cases xs new y h =
     let Old : Action → Type 0 = λ z. Has xs z ⊎ Has new z in
     all-has Old (fold placed xs new) y (folded_placed_all Old xs new (all_from_has Old xs (λ z k. inl k)) (all_from_has Old new (λ z k. inr k))) h
 
--- what holds between each of the others and the list, and between it and one more, holds between it and the list with that one
+-- what holds between each of the others and the list, and between it and one more,
+-- holds between it and the list with that one
 others_placed : (R : Action → Action → Type 0) → ((x y : Action) → R x y → R y x) → (xs : List Action) (x : Action) (new : List Action) → AllByRecursion (R x) new → AllByRecursion (λ z. AllByRecursion (R z) xs) new → AllByRecursion (λ z. AllByRecursion (R z) (placed xs x)) new
 others_placed R swap xs x [] a b = tt
 others_placed R swap xs x (z ∷ new) a b = (placed_all (R z) xs x b.0 (swap x z a.0), others_placed R swap xs x new a.1 b.1)

@@ -3,7 +3,7 @@ use Rattle.std.specs.Prelude.{◌≡◌, ℕ, ◌-◌, Bool, true, not, ◌&&◌
 use Rattle.std.specs.List.{insert, suffix_len, AllByRecursion}
 use Rattle.action.specs.declared.action.Action.{Action}
 
--- by time, then coordinator, then article
+-- a comes before b: by its time; where that is the same, by its coordinator; where that is too, by its article
 abbrev pub precedes : Action → Action → Bool
 precedes a b =
     nat_lt a.time b.time || (a.time == b.time && (nat_lt a.coordinator b.coordinator || (a.coordinator == b.coordinator && nat_lt a.article b.article)))

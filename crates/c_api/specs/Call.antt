@@ -12,7 +12,7 @@ use Rattle.message.specs.Faults.{shown}
 abbrev pub kind_of : ℕ → Option Meaning
 kind_of kind = cond (kind == 1) (Some on_hand) (cond (kind == 2) (Some flags) (cond (kind == 3) (Some price) None))
 
--- a count of actions, or minus the number of a refusal
+-- how many actions, or the number of the refusal with a minus sign
 abbrev pub as_number : Result ℕ ReaderFault → ℤ
 as_number (Ok n) = pos n
 as_number (Err e) = neg_ℤ (pos (shown e).number)
@@ -33,7 +33,7 @@ pub record CheckedFor (kind : Meaning) (bytes : List ℕ) (group sites articles 
   pub checked : Checked kind setup bytes r
 
 pub data Answered (bytes : List ℕ) (group kind sites articles : ℕ) (r : ℤ) : Type 0 where
-  -- minus 1: the set-up is outside its limits, or the call has no such kind
+  -- minus 1: no set-up has these numbers, or the call has no such kind
   no_setup : (Lawful group sites 0 articles → ⊥) → r ≡ neg_ℤ (pos 1) → Answered bytes group kind sites articles r
   no_kind : kind_of kind ≡ None → r ≡ neg_ℤ (pos 1) → Answered bytes group kind sites articles r
   answered : (meaning : Meaning) → kind_of kind ≡ Some meaning → CheckedFor meaning bytes group sites articles r → Answered bytes group kind sites articles r

@@ -8,7 +8,7 @@ abbrev pub number : CallFault → ℕ
 number NoTable = 1
 number (InReader e) = (shown e).number
 
--- a count of actions, or minus the number of what is at fault
+-- how many actions, or the number of what is at fault with a minus sign
 abbrev pub as_answer : Result ℤ CallFault → ℤ
 as_answer (Ok n) = n
 as_answer (Err e) = neg_ℤ (pos (number e))

@@ -1,4 +1,5 @@
--- Flags: a step stays within 64 bits, what is not known changes nothing, and the order of two known pairs makes no difference. Assumes nothing.
+-- Flags: a step stays within 64 bits, what is not known changes nothing, and the order of two known pairs makes no
+-- difference. Assumes nothing.
 use Rattle.std.specs.Prelude.{◌≡◌, ℕ, ◌^◌, ◌<◌, true, false, ℤ, FitsSigned, bit_or}
 use Rattle.std.proofs.Common.{ap, arith, to_z, of_z}
 use Rattle.std.proofs.lemmas.Nat.{or_lt}

@@ -8,7 +8,8 @@ use Rattle.kind.specs.Meaning.{Meaning}
 abbrev pub between : ℤ → ℤ → ℤ → Bool
 between low high z = int_le low z && int_le z high
 
--- On hand. Operation 1 adds an amount from -1,000,000 to 1,000,000, modulo 2 ^ 64 in two's complement.
+-- On hand. Its one operation, 1, adds. Known are the amounts of at most 1,000,000 up or down, and the sum wraps
+-- around: it is taken modulo 2 ^ 64, and is a signed number.
 
 abbrev pub on_hand_knows : ℕ → ℤ → Bool
 on_hand_knows o a = o == 1 && between (neg_ℤ (pos 1000000)) (pos 1000000) a
@@ -19,7 +20,8 @@ on_hand_step f o a = cond (on_hand_knows o a) (int_wrap w64 (f +ℤ a)) f
 abbrev pub on_hand : Meaning
 on_hand = record { number = 1; starts = pos 0; knows = on_hand_knows; steps = on_hand_step; commutes = true }
 
--- Flags. Operation 1 switches on the bits of an amount from 1 to 16,777,215.
+-- Flags. Its one operation, 1, sets each bit of the figure that is 1 in the amount, and clears none. Known are the
+-- amounts of at least 1 and at most 16,777,215.
 
 abbrev pub flags_knows : ℕ → ℤ → Bool
 flags_knows o a = o == 1 && between (pos 1) (pos 16777215) a
@@ -30,9 +32,11 @@ flags_step f o a = cond (flags_knows o a) (to_z w64 (bit_or (of_z w64 f) (of_z w
 abbrev pub flags : Meaning
 flags = record { number = 2; starts = pos 0; knows = flags_knows; steps = flags_step; commutes = true }
 
--- A price in cents. Operation 1 sets it to an amount from 0 to 99,999,999. Operation 2, with an amount a from
--- -500 to 500, first holds the figure between 0 and 99,999,999, and then makes it 1000 + a thousandths of
--- that, the fraction dropped, at most 99,999,999. What is not known leaves the figure as it is, and not held.
+-- A price in cents. The least price is 0 and the highest 99,999,999. Operation 1 puts the amount in the place of the
+-- figure; known are the amounts that are prices. Operation 2 changes the figure by as many thousandths as the amount
+-- says; known are the amounts of at most 500 up or down. Before the change the figure is held to the nearest price.
+-- After it, what is left of a cent is dropped, and more than the highest price becomes the highest. A pair that is
+-- not known changes nothing: the figure is not even held.
 
 abbrev pub highest : ℤ
 highest = pos 99999999

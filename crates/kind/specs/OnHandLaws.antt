@@ -1,4 +1,5 @@
--- On hand: a step stays within 64 bits, what is not known changes nothing, and the order of two known pairs makes no difference. Assumes nothing.
+-- On hand: a step stays within 64 bits, what is not known changes nothing, and the order of two known pairs makes no
+-- difference. Assumes nothing.
 use Rattle.std.specs.Prelude.{◌≡◌, ℕ, true, false, ℤ, ◌+ℤ◌, FitsSigned}
 use Rattle.std.proofs.Common.{ap}
 use Rattle.std.proofs.Math.IntN.{+ℤ_assoc, +ℤ_comm}

@@ -20,7 +20,7 @@ abbrev pub Run : {X : Type 0} → (Progress → X → Bool) → (Progress → X 
 Run test after p [] = Unit {0}
 Run test after p (x ∷ xs) = (test p x ≡ true) × Run test after (after p x) xs
 
--- so many are left, and as long as any is, just such a record is due
+-- so many are left, and as long as any is, exactly such a record is due
 pub record Block (kind : Meaning) (setup : Setup) {X : Type 0} (wrap : X → Record) (test : Progress → X → Bool) (after : Progress → X → Progress) (left : Progress → ℕ) (Ready : Progress → Type 0) : Type 0 where
   pub takes : (p q : Progress) (r : Record) → Ready p → 1 ≤ left p → is_due p.due r ≡ true → admitted kind setup p r ≡ Ok q → (x : X) × (r ≡ wrap x) × (test p x ≡ true) × (q ≡ after p x)
   pub leads : (p : Progress) (x : X) → Ready p → 1 ≤ left p → test p x ≡ true → onward kind setup (Some p) (wrap x) ≡ Some (after p x)

@@ -1,4 +1,4 @@
--- Whole messages: their records are read to the end just where they are lawful. Assumes nothing.
+-- Whole messages: their records are read to the end exactly where they are lawful. Assumes nothing.
 use Rattle.std.proofs.Common.{◌≡◌, ℕ, zero, suc, ◌<◌, ◌≤◌, true, cond, ◌&&◌, eqb, ltb, leb, List, [], ◌∷◌, ◌++◌, map, length, Some, Ok, Err, fold, sum_by, count_by, sym, refl, ap, ◌∙◌, arith}
 use Rattle.std.specs.List.{flat_map, AllByRecursion}
 use Rattle.std.proofs.ByRecursion.{All-map, All-weaker}

@@ -39,7 +39,8 @@ told_placed at a [] = refl
 told_placed at a (RecordKinds.Interval i ∷ rs) = ap (λ is. (a, i) ∷ is) (told_placed (at + 10) a rs)
 told_placed at a (r ∷ rs) = told_placed (at + length (record_bytes r)) (article_after a r) rs
 
--- the place that `find` over a message's intervals answers, in the form in which std's lemma on `find` says what it found
+-- the place that `find` over a message's intervals answers,
+-- in the form in which std's lemma on `find` says what it found
 pub first_in : (test : ℕ → Interval → Bool) (bytes : List ℕ) (r : Option FoundInterval) → option_map (λ s. s) r ≡ find (λ s. test s.article s.interval) (found_intervals_in bytes) → option_map (λ s. s.offset) r ≡ first_place test 0 0 (records_in bytes)
 first_in test bytes None e = ap (option_map (λ s. s.offset)) e
 first_in test bytes (Some s) e = ap (option_map (λ s. s.offset)) e

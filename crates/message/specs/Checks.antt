@@ -63,7 +63,7 @@ pub record Foreign (kind : Meaning) (setup : Setup) (rs : List Record) (rest : L
   pub starts : StartsWith rest (RecordKinds.Header header)
   pub other : Names kind setup header → ⊥
 
--- 11: the rest starts with a record of the kind due, which is not a header of another group or kind, and which breaks a field
+-- 11: the rest starts with a record of the kind due. It is no header of another group or kind, and it breaks a field
 -- rule after these records
 pub record Broken (kind : Meaning) (setup : Setup) (rs : List Record) (rest : List ℕ) (refusal : Refusal) : Type 0 where
   pub is : refusal ≡ by_reader 11 (offset rs)

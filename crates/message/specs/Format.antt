@@ -9,7 +9,7 @@ use Rattle.message.specs.declared.record.SectionHead.{SectionHead}
 use Rattle.message.specs.declared.record.Record.{Record}
 use Rattle.message.specs.declared.record.Record.TheVariants as RecordKinds
 
--- one article's part of a message: which stretches of time it carries, and the actions in them
+-- one article's part of a message: its intervals, and the actions that lie in them
 pub record Section : Type 0 where
   pub article : ℕ
   pub intervals : List Interval

@@ -1,4 +1,4 @@
--- Which messages a table of a set-up and a kind can read. Assumes nothing.
+-- Which messages are lawful for a kind and a set-up: those that such a table can read. Assumes nothing.
 use Rattle.std.specs.Prelude.{◌≡◌, ℕ, ◌<◌, ◌≤◌, true, List, map, length, sum_by, FitsSigned}
 use Rattle.std.specs.Int.{w32}
 use Rattle.std.specs.List.{ContainsAt as Has, AllByRecursion}
@@ -19,7 +19,7 @@ pub record LawfulInterval (setup : Setup) (i : Interval) : Type 0 where
   pub forward : i.from ≤ i.to
   pub in_time : i.to ≤ 4000000000
 
--- the interval is of the action's coordinator, and the action lies above its from and up to its to
+-- the interval is of the action's coordinator, begins before the action, and ends with it or later
 abbrev pub Carries : Interval → Action → Type 0
 Carries i x = (i.site ≡ x.coordinator) × (i.from < x.time) × (x.time ≤ i.to)
 
@@ -29,7 +29,7 @@ pub record LawfulAction (kind : Meaning) (s : Section) (x : Action) : Type 0 whe
   pub begun : 1 ≤ x.transaction
   pub in_turn : x.transaction ≤ x.time
   pub known : knows_action kind.knows x ≡ true
-  -- an operation of one byte and an amount of 32 bits
+  -- the operation fits one byte, and the amount fits four
   pub one_byte : x.operation < 256
   pub four_bytes : FitsSigned w32 x.amount
 

@@ -20,12 +20,12 @@ pub record IsMessageFor (kind : Meaning) (setup : Setup) (bytes : List ℕ) (m :
 abbrev pub IsMessage : List ℕ → Message → Type 0
 IsMessage bytes m = (kind : Meaning) × (setup : Setup) × IsMessageFor kind setup bytes m
 
--- a call of `next` from progress p and place at gives just this answer, and leads to progress q and place to
+-- a call of `next` from progress p and place at gives exactly this answer, and leads to progress q and place to
 pub record GivesOnly (kind : Meaning) (setup : Setup) (bytes : List ℕ) (p : Progress) (at : ℕ) (answer : Result (Option FoundRecord) ReaderFault) (q : Progress) (to : ℕ) : Type 0 where
   pub gives : Next kind setup p at bytes answer q to
   pub only : (other : Result (Option FoundRecord) ReaderFault) (r : Progress) (place : ℕ) → Next kind setup p at bytes other r place → (other ≡ answer) × (r ≡ q) × (place ≡ to)
 
--- calls of `next` one after another give just these records, and then the end, at which the reader stays
+-- calls of `next` one after another give exactly these records, and then the end, at which the reader stays
 abbrev pub ReadsJust : Meaning → Setup → List ℕ → Progress → ℕ → List FoundRecord → Type 0
 ReadsJust kind setup bytes p at [] = GivesOnly kind setup bytes p at (Ok None) p at
 ReadsJust kind setup bytes p at (f ∷ fs) =

@@ -16,7 +16,8 @@ use Rattle.message.specs.Progress.{admitted, start}
 use Rattle.message.specs.Rules.{is_due}
 use Rattle.message.specs.Walks.{its_action}
 
--- one step from place at, with the progress so far: a record that leads on, with the progress after it, or the end; or a fault
+-- one step from place at, with the progress so far: a record that leads on, with the progress after it, or the end;
+-- or a fault
 abbrev pub Step : Type 0
 Step = Result (Option (Record × Progress)) ReaderFault
 

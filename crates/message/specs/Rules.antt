@@ -93,7 +93,7 @@ pub record NextInterval (setup : Setup) (before : List Record) (i : Interval) : 
   pub lawful : LawfulInterval setup i
   pub rising : AllByRecursion (λ j. j.site < i.site) (intervals_so_far before)
 
--- it is on the section's article, one of the section's intervals carries it, and the section's actions before precede it
+-- it is on its section's article, an interval of the section carries it, and the section's actions before precede it
 pub record NextAction (kind : Meaning) (before : List Record) (x : Action) : Type 0 where
   pub on_article : x.article ≡ (present_head before).article
   pub carried : (i : Interval) × Has (intervals_so_far before) i × Carries i x

@@ -39,7 +39,7 @@ latest_to = fold (λ t (h : ℕ × Interval). max t h.1.to)
 abbrev pub least_of_in : List Row → ℕ → ℕ → ℕ → ℕ → ℕ
 least_of_in rows sites a t z = fold (λ least q. min least (entry_in rows a z q)) t (range_with_len 0 sites)
 
--- the least of all the article's known entries, over all pairs of sites
+-- the smallest known entry that the article has, over all pairs of sites
 abbrev pub least_in : List Row → ℕ → ℕ → ℕ
 least_in rows sites a = fold (least_of_in rows sites a) (entry_in rows a 0 0) (range_with_len 0 sites)
 

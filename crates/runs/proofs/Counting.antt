@@ -39,7 +39,7 @@ module _ (kind : Meaning) (group : Group) (b : Book) (l : Account group b) (s : 
       let on_it : x.article ≡ a = eqb-true x.article a parts.0 in
       (h, on_it, subst (λ (n : ℕ). x.time ≤ b.reach s n x.coordinator) on_it (leb-true x.time (b.reach s x.article x.coordinator) parts.1))
 
-  -- what was archived and what the history holds is just what the book says that the site has, in order
+  -- what was archived and what the history holds is exactly what the book says that the site has, in order
   all_of_it : g.archived ++ on a v.history ≡ in_order (filter has_it b.committed)
   all_of_it =
       ascending_same (g.archived ++ on a v.history) (in_order (filter has_it b.committed)) g.ordered (in_order_ascending (filter has_it b.committed) (pairwise_kept Apart has_it b.committed l.distinct))

@@ -9,12 +9,12 @@ abbrev pub before : ℕ → List (List ℕ) → List (List ℕ)
 before b [] = (b ∷ []) ∷ []
 before b (line ∷ lines) = (b ∷ line) ∷ lines
 
--- the lines of a text: byte 10 ends a line, and so does the end of the text where it is not empty
+-- the lines of a text, which byte 10 ends; what is left after the last byte 10 is a line too, if it has any bytes
 abbrev pub lines : List ℕ → List (List ℕ)
 lines [] = []
 lines (b ∷ bytes) = cond (b == 10) ([] ∷ lines bytes) (before b (lines bytes))
 
--- the lines of a script: of what is read only the first 32,768 bytes count
+-- the lines of a script, of which no more than 32,768 bytes count
 abbrev pub script : List ℕ → List (List ℕ)
 script input = lines (take 32768 input)
 

@@ -12,8 +12,8 @@ use Rattle.script.specs.Lines.{command}
 abbrev pub sheet_bytes : SheetLine → List ℕ
 sheet_bytes s = s.text.items
 
--- a blank and the answer, which for `P` is 1 where there is an open item and 0 where not; or ` refused ` and the
--- refusal's number
+-- what is printed after the letter: the answer, behind a blank, for `P` as 1 if the item is open and as 0 if not; or
+-- the number of the refusal, behind ` refused `
 abbrev pub answer_bytes : Reply → List ℕ
 answer_bytes (Ok (Answers.Time t)) = 32 ∷ decimal t
 answer_bytes (Ok (Answers.Length n)) = 32 ∷ decimal n

@@ -86,7 +86,7 @@ pub data Makes (group : Group) (run : List Event) (d : DeskView) : Command → R
       IfErr r (λ e. (shown e ≡ by_table 4 0) ⊎ (shown e ≡ by_table 5 0)) →
       Makes group run d (Offer site peer article slot) (offer_reply r)
       (at site (Offers peer article blank r after) ∷ [])
-  -- T, of just the bytes that the slot holds
+  -- T, of exactly the bytes that the slot holds
   takes :
       (site slot : ℕ) (r : Result ℕ TableFault) →
       Makes group run d (Take site slot) (take_reply r)

@@ -26,7 +26,7 @@ is_offered v p a x =
 abbrev pub offer_intervals : View → ℕ → ℕ → List Interval
 offer_intervals v p a = map (offer_interval v p a) (range_with_len 0 v.setup.sites)
 
--- the history's actions in them
+-- what the history has in these intervals
 abbrev pub offer_actions : View → ℕ → ℕ → List Action
 offer_actions v p a = filter (is_offered v p a) v.history
 

@@ -44,7 +44,7 @@ pub record Sound (kind : Meaning) (v : View) : Type 0 where
   pub held : length v.history ≤ v.capacity
   pub few_places : v.capacity ≤ 1024
   pub fitting : AllByRecursion (Fitting kind v.setup) v.history
-  -- no action is above its coordinator's entry in the reception vector
+  -- the reception vector has reached every action of the history
   pub reached : AllByRecursion (λ x. x.time ≤ entry v x.article v.setup.own x.coordinator) v.history
   -- no entry is above the own site's for the same site, and none of the own site's is above the clock
   pub believed : (a z q : ℕ) → entry v a z q ≤ entry v a v.setup.own q

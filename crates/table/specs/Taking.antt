@@ -61,7 +61,7 @@ taken_row kind v m a r = record {
   known = fold (raised_by v.setup.own m.sender) r.known (filter (λ h. nat_eq h.0 a) (told_intervals m));
 }
 
--- the clock is raised to the greatest to
+-- the clock goes up to the latest end of an interval
 abbrev pub taken : Meaning → View → Message → View
 taken kind v m = record {
   setup = v.setup;

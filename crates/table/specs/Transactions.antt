@@ -20,7 +20,7 @@ use Rattle.table.specs.View.{View, entry}
 abbrev pub open_refusal : View → Option Refusal
 open_refusal v = unless (not v.is_open) (by_table 2 0) None
 
--- a ticket bears the group, kind, own site and clock of its table
+-- the ticket of a table notes whose it is, by group, kind and site, and what its clock shows
 abbrev pub ticket : Meaning → View → Ticket
 ticket kind v = record { group = v.setup.group; kind = kind.number; site = v.setup.own; clock = v.clock }
 
@@ -62,7 +62,7 @@ write_refusal kind v t article operation amount =
     (unless (nat_lt (length v.pending) 16) (by_table 7 0)
     (unless (nat_le (next_time v) 4000000000) (by_table 8 0) None))))
 
--- a transaction is numbered by the time of its first action
+-- all actions of a transaction bear one number, the time of the first, which comes next after the clock
 abbrev pub new_action : View → ℕ → ℕ → ℤ → Action
 new_action v article operation amount = record {
   coordinator = v.setup.own;
@@ -103,11 +103,12 @@ commit_refusal kind v t =
     unless (holds kind v t) (by_table 3 0)
     (unless (nat_le (length v.history + length v.pending) v.capacity) (by_history 16 v.capacity) None)
 
--- the last time on the article, 0 where there is none
+-- the time of the latest action on the article, 0 where there is none
 abbrev pub latest : ℕ → List Action → ℕ
 latest a xs = fold (λ t x. max t x.time) 0 (on a xs)
 
--- a commuting kind steps the kept figure by the new actions alone, any other works again from the base
+-- an article's kept figure with new actions, which the history has by now: where the kind commutes, what is new is
+-- worked on top of it; else the base is worked by all that the history has
 abbrev pub figure_after : Meaning → ℕ → Row → List Action → List Action → ℤ
 figure_after kind a r history new =
     cond kind.commutes (working kind.steps r.kept (on a new)) (working kind.steps r.base (on a history))
@@ -137,7 +138,8 @@ is_written v a = nat_lt 0 (length (on a v.pending))
 abbrev pub written_articles : View → List ℕ
 written_articles v = filter (is_written v) (range_with_len 0 v.setup.articles)
 
--- one interval: the own site, from the article's own entry before the commit to that entry after it
+-- a written article's section: the transaction's actions on it, and an interval of the own site, which begins at its
+-- entry and ends at what the commit makes of that
 abbrev pub transaction_section : View → ℕ → Section
 transaction_section v a =
     let own : ℕ = v.setup.own in
@@ -159,7 +161,7 @@ transaction_message kind v = record {
   sections = map (transaction_section v) (written_articles v);
 }
 
--- the transaction's message, or nothing where there were no writes
+-- the transaction's message, or nothing for a transaction without writes
 abbrev pub transaction_bytes : Meaning → View → List ℕ
 transaction_bytes kind v = cond (nat_lt 0 (length v.pending)) (format (transaction_message kind v)) []
 

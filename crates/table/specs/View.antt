@@ -50,7 +50,7 @@ row v a = slice_index_or v.rows a no_row
 abbrev pub entry : View → ℕ → ℕ → ℕ → ℕ
 entry v = entry_in v.rows
 
--- a new table: its history is emptied, all times are 0 and all figures the start figure
+-- a new table: its history is empty, no site is known to have anything, and no figure has moved from the start
 abbrev pub fresh : Meaning → Setup → ℕ → View
 fresh kind setup capacity = record {
   setup = setup;
