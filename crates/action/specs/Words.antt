@@ -7,11 +7,11 @@ abbrev pub reason : ℕ → ℕ → List ℕ
 reason number place =
     cond (number == 1) (codes ": the set-up is outside its limits")
     (cond (number == 2) (codes ": a transaction is open")
-    (cond (number == 3) (codes ": the ticket is not that of the open transaction")
+    (cond (number == 3) (codes ": no open transaction fits the ticket")
     (cond (number == 4) (codes ": there is no such article")
     (cond (number == 5) (codes ": there is no such site")
     (cond (number == 6) (codes ": the kind does not know this pair")
-    (cond (number == 7) (codes ": the transaction has 16 writes already")
+    (cond (number == 7) (codes ": the transaction is full, it has 16 writes")
     (cond (number == 8) (codes ": the time would be above 4,000,000,000")
     (cond (number == 9) (codes ": the record at byte " ++ (decimal place ++ codes " is cut off or not the one due"))
     (cond (number == 10) (codes ": the message is of another group or kind")

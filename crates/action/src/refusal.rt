@@ -84,11 +84,11 @@ impl fmt::Display for Reason {
         match self.number {
             1 => f.write_str(": the set-up is outside its limits"),
             2 => f.write_str(": a transaction is open"),
-            3 => f.write_str(": the ticket is not that of the open transaction"),
+            3 => f.write_str(": no open transaction fits the ticket"),
             4 => f.write_str(": there is no such article"),
             5 => f.write_str(": there is no such site"),
             6 => f.write_str(": the kind does not know this pair"),
-            7 => f.write_str(": the transaction has 16 writes already"),
+            7 => f.write_str(": the transaction is full, it has 16 writes"),
             8 => f.write_str(": the time would be above 4,000,000,000"),
             9 => write!(f, ": the record at byte {place} is cut off or not the one due"),
             10 => f.write_str(": the message is of another group or kind"),

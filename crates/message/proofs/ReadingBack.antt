@@ -14,7 +14,7 @@ use Rattle.message.specs.Fields.{Fitting}
 use Rattle.message.specs.Format.{Message, carried, record_bytes, records, told_intervals}
 use Rattle.message.specs.Found.{found_in, placed}
 use Rattle.message.specs.Progress.{start}
-use Rattle.message.specs.ReadBack.{IsMessage, IsMessageFor, ReadsJust}
+use Rattle.message.specs.ReadBack.{IsMessage, IsMessageFor, ReadsExactly}
 use Rattle.message.specs.Reading.{Next, Step, judged, onward, step, stepped}
 use Rattle.message.specs.Walks.{actions_of, intervals_of, records_in}
 use Rattle.message.proofs.Carried.{carried_of, told_intervals_of}
@@ -59,7 +59,7 @@ module _ (kind : Meaning) (setup : Setup) (bytes : List ℕ) where
   next_end p q at to (Err e) so h = let e : ◌≡◌ {A = Step} (Err e) (Ok None) = sym h.0 ∙ so in cc
 
   -- records that lead to the end, and whose bytes are all that is left, are what is read
-  reads_just : (rs : List Record) (p e : Progress) (at : ℕ) → fold (onward kind setup) (Some p) rs ≡ Some e → e.due ≡ Due.End → AllByRecursion Fitting rs → drop at bytes ≡ flat_map record_bytes rs → ReadsJust kind setup bytes p at (placed at rs)
+  reads_just : (rs : List Record) (p e : Progress) (at : ℕ) → fold (onward kind setup) (Some p) rs ≡ Some e → e.due ≡ Due.End → AllByRecursion Fitting rs → drop at bytes ≡ flat_map record_bytes rs → ReadsExactly kind setup bytes p at (placed at rs)
   reads_just [] p e at read end fits left =
       let due : p.due ≡ Due.End = ap (λ x. x.due) (some_same p e read) ∙ end in
       let here : step kind setup p at (drop at bytes) ≡ Ok None = λ i. stepped kind setup p at (decoded (due i) (left i)) in
@@ -76,7 +76,7 @@ module _ (kind : Meaning) (setup : Setup) (bytes : List ℕ) where
         reads_just rs f.next e (at + size) f.onto end fits.1 past,
       )
 
-  pub read_back : (m : Message) → IsMessageFor kind setup bytes m → ReadsJust kind setup bytes start 0 (placed 0 (records m))
+  pub read_back : (m : Message) → IsMessageFor kind setup bytes m → ReadsExactly kind setup bytes start 0 (placed 0 (records m))
   read_back m is =
       let read = lawful_reads kind setup m is.lawful in
       reads_just (records m) start read.0 0 read.1 read.2 (lawful_fits kind setup is.one_byte m is.lawful) is.written

@@ -26,7 +26,7 @@ pub record GivesOnly (kind : Meaning) (setup : Setup) (bytes : List ℕ) (p : Pr
   pub only : (other : Result (Option FoundRecord) ReaderFault) (r : Progress) (place : ℕ) → Next kind setup p at bytes other r place → (other ≡ answer) × (r ≡ q) × (place ≡ to)
 
 -- calls of `next` one after another give exactly these records, and then the end, at which the reader stays
-abbrev pub ReadsJust : Meaning → Setup → List ℕ → Progress → ℕ → List FoundRecord → Type 0
-ReadsJust kind setup bytes p at [] = GivesOnly kind setup bytes p at (Ok None) p at
-ReadsJust kind setup bytes p at (f ∷ fs) =
-    (q : Progress) × (to : ℕ) × GivesOnly kind setup bytes p at (Ok (Some f)) q to × ReadsJust kind setup bytes q to fs
+abbrev pub ReadsExactly : Meaning → Setup → List ℕ → Progress → ℕ → List FoundRecord → Type 0
+ReadsExactly kind setup bytes p at [] = GivesOnly kind setup bytes p at (Ok None) p at
+ReadsExactly kind setup bytes p at (f ∷ fs) =
+    (q : Progress) × (to : ℕ) × GivesOnly kind setup bytes p at (Ok (Some f)) q to × ReadsExactly kind setup bytes q to fs

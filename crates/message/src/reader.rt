@@ -3,7 +3,7 @@ ghost use Rattle.message.specs.Checks.{Accepted, Accepts, NotBoth, Once, Refused
 ghost use Rattle.message.specs.Format.{Message, records};
 ghost use Rattle.message.specs.Found.{placed};
 ghost use Rattle.message.specs.Progress.{start};
-ghost use Rattle.message.specs.ReadBack.{IsMessageFor, ReadsJust};
+ghost use Rattle.message.specs.ReadBack.{IsMessageFor, ReadsExactly};
 ghost use Rattle.message.specs.Reading.{Next, is_action};
 ghost use Rattle.message.specs.Scanning.{Scanned};
 
@@ -35,7 +35,7 @@ impl<'a, K: Kind> Reader<'a, K> {
         ensures at { result.at ≡ 0 }
         ensures progress { result.progress ≡ start }
         ensures reads_back { (m : Message) → IsMessageFor K.means setup bytes.now m
-            → ReadsJust K.means setup bytes.now start 0 (placed 0 (records m)) }
+            → ReadsExactly K.means setup bytes.now start 0 (placed 0 (records m)) }
     {
         Reader {
             setup,
