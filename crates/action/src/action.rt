@@ -29,7 +29,7 @@ impl Action {
         (self.time, self.coordinator, self.article) < (other.time, other.coordinator, other.article)
     }
 
-    /// The action as record A of a message (docs/MESSAGES.md, section 2).
+    /// The action as record A of a message (docs/MESSAGES.md, section 1).
     pub fn to_bytes(&self) -> [u8; ACTION_BYTES]
         ensures { result ≡ action_bytes self.now }
     {

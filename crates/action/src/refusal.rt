@@ -90,12 +90,24 @@ impl fmt::Display for Reason {
             6 => f.write_str(": the kind does not know this pair"),
             7 => f.write_str(": the transaction is full, it has 16 writes"),
             8 => f.write_str(": the time would be above 4,000,000,000"),
-            9 => write!(f, ": the record at byte {place} is cut off or not the one due"),
+            9 => write!(
+                f,
+                ": the record at byte {place} is cut off or not the one due"
+            ),
             10 => f.write_str(": the message is of another group or kind"),
             11 => write!(f, ": the record at byte {place} breaks a field rule"),
-            12 => write!(f, ": the message ends before byte {place}, where more follows"),
-            13 => write!(f, ": the interval at byte {place} begins above what this table has"),
-            14 => write!(f, ": the interval at byte {place} goes beyond this site's own actions"),
+            12 => write!(
+                f,
+                ": the message ends before byte {place}, where more follows"
+            ),
+            13 => write!(
+                f,
+                ": the interval at byte {place} begins above what this table has"
+            ),
+            14 => write!(
+                f,
+                ": the interval at byte {place} goes beyond this site's own actions"
+            ),
             15 => write!(f, ": the buffer is too short, the offer has {place} bytes"),
             16 => write!(f, ": the history has no room, its capacity is {place}"),
             17 => write!(f, ": the history has no place {place}"),

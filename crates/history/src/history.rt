@@ -8,31 +8,36 @@ use action::Action;
 /// The most places that a history may have.
 pub const MOST_PLACES: usize = 1024;
 
-// A list of actions and a fixed capacity. What is refused changes nothing.
+/// Where a table keeps its actions: a list of them, with room for a fixed number. Places are counted from 0.
+/// docs/RULES.md, section 5, has what it does, and what the author of another one has to prove.
 pub trait History {
-    // The actions, in their places.
+    // The list.
     ghost items: { Self → List AnAction };
 
-    // The capacity: how many places there are in all.
+    // The capacity: for how many actions there is room in all.
     ghost room: { Self → ℕ };
 
+    /// How many actions there are.
     fn count(&self) -> usize
         ensures { result ≡ length (items self.now) };
 
+    /// For how many actions there is room in all.
     fn capacity(&self) -> usize
         ensures { result ≡ room self.now };
 
-    fn read(&self, i: usize) -> Result<Action, HistoryFault>
-        ensures { Read (items self.now) i result };
+    /// The action at a place. Refused by 17 where there is none.
+    fn read(&self, place: usize) -> Result<Action, HistoryFault>
+        ensures { Read (items self.now) place result };
 
-    // Puts the action at place `i` and moves the later ones up by one.
-    fn insert(&mut self, i: usize, action: Action) -> Result<(), HistoryFault>
-        ensures list { Inserted (items self.old) (room self.old) i action result (items self.new) }
+    /// Puts an action at a place; those from there on move up by one. Refused by 16 where there is no room, else
+    /// by 17 where the place is beyond the end of the list.
+    fn insert(&mut self, place: usize, action: Action) -> Result<(), HistoryFault>
+        ensures list { Inserted (items self.old) (room self.old) place action result (items self.new) }
         ensures fixed { room self.new ≡ room self.old };
 
-    // Takes place `i` out, answers what stood there, and closes the gap.
-    fn remove(&mut self, i: usize) -> Result<Action, HistoryFault>
-        ensures list { Removed (items self.old) i result (items self.new) }
+    /// Takes out the action at a place; those after it move down by one. Refused by 17 where there is none.
+    fn remove(&mut self, place: usize) -> Result<Action, HistoryFault>
+        ensures list { Removed (items self.old) place result (items self.new) }
         ensures fixed { room self.new ≡ room self.old };
 
     ghost bounded: { (h : Self) → (length (items h) ≤ room h) × (room h ≤ 1024) };

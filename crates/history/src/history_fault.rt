@@ -3,13 +3,15 @@ ghost use Rattle.history.specs.Faults.{shown};
 ghost use Rattle.history.specs.declared.history_fault.HistoryFault.TheVariants.{Full, NoPlace};
 
 use action::Refusal;
+use std::error::Error;
+use std::fmt;
 
-// Why a history refused.
+/// Why a history refused.
 #[derive(Clone, Copy, Debug, PartialEq, Eq)]
 pub enum HistoryFault {
-    // It lacks places; how many it has in all.
+    /// Refusal 16: it has no room. With its capacity.
     Full(usize),
-    // It has no such place.
+    /// Refusal 17: there is no such place. With that place.
     NoPlace(usize),
 }
 
@@ -24,23 +26,37 @@ impl From<HistoryFault> for Refusal {
     }
 }
 
-// Place `i` has to be one of those in use.
-pub(crate) fn check_place(i: usize, used: usize) -> Result<(), HistoryFault>
-    ensures { MatchResult result (λ _. i < used) (λ e. (used ≤ i) × (e ≡ NoPlace i)) }
-{
-    if i < used {
-        Ok(())
-    } else {
-        Err(HistoryFault::NoPlace(i))
+impl fmt::Display for HistoryFault {
+    ghost use Rattle.std.specs.Prelude.{Some};
+    ghost use Rattle.action.specs.Words.{refusal_words};
+
+    ghost output = { λ e. Some (refusal_words (shown e)) };
+
+    fn fmt<W: fmt::Write>(&self, f: &mut fmt::Formatter<W>) -> fmt::Result {
+        let refusal = Refusal::from(*self);
+        write!(f, "{refusal}")
     }
 }
 
-// One more has to have room, and its place `i` to be in use or the first free one.
-pub(crate) fn check_insert(i: usize, used: usize, places: usize) -> Result<(), HistoryFault>
-    ensures { MatchResult result (λ _. (i ≤ used) × (used < places)) (λ e. ((places ≤ used) × (e ≡ Full places)) ⊎ ((used < places) × (used < i) × (e ≡ NoPlace i))) }
+impl Error for HistoryFault {}
+
+// The place has to be in use.
+pub(crate) fn check_place(place: usize, used: usize) -> Result<(), HistoryFault>
+    ensures { MatchResult result (λ _. place < used) (λ e. (used ≤ place) × (e ≡ NoPlace place)) }
+{
+    if place < used {
+        Ok(())
+    } else {
+        Err(HistoryFault::NoPlace(place))
+    }
+}
+
+// There has to be room for one more, and its place has to be in use or the first free one.
+pub(crate) fn check_insert(place: usize, used: usize, places: usize) -> Result<(), HistoryFault>
+    ensures { MatchResult result (λ _. (place ≤ used) × (used < places)) (λ e. ((places ≤ used) × (e ≡ Full places)) ⊎ ((used < places) × (used < place) × (e ≡ NoPlace place))) }
 {
     if used >= places {
         return Err(HistoryFault::Full(places));
     }
-    check_place(i, used + 1)
+    check_place(place, used + 1)
 }

@@ -5,11 +5,11 @@ use crate::history_fault::{HistoryFault, check_insert, check_place};
 use action::Action;
 use std::alloc::{AllocError, Global};
 
-// A history that keeps records. Its memory is got when it is made, so that no insert wants any.
+/// A history that keeps actions as they are. It gets its memory when it is made.
 #[derive(Drop)]
 pub struct Rack {
     actions: Vec<Action>,
-    // How many were asked for; the memory may have room for more.
+    // The capacity: what was asked for. The memory may have room for more.
     places: usize,
     ghost within: { length actions.items ≤ places },
     ghost held: { places ≤ vec_capacity actions },
@@ -17,7 +17,7 @@ pub struct Rack {
 }
 
 impl Rack {
-    // An empty rack of so many places, 1,024 at the most. One of no places asks for no memory.
+    /// An empty rack with room for so many actions, at most `MOST_PLACES`.
     pub fn new(heap: Global, places: usize) -> Result<Rack, AllocError>
         ensures made { IfOk result (λ rack. (rack.actions.items ≡ []) × (rack.places ≡ min places 1024)) }
         ensures succeeds { places ≡ 0 → IsOk result }
@@ -43,18 +43,21 @@ impl History for Rack {
         self.places
     }
 
-    fn read(&self, i: usize) -> Result<Action, HistoryFault> {
-        self.actions.get(i).copied().ok_or(HistoryFault::NoPlace(i))
+    fn read(&self, place: usize) -> Result<Action, HistoryFault> {
+        self.actions
+            .get(place)
+            .copied()
+            .ok_or(HistoryFault::NoPlace(place))
     }
 
-    fn insert(&mut self, i: usize, action: Action) -> Result<(), HistoryFault> {
-        check_insert(i, self.actions.len(), self.places)?;
-        self.actions.insert(i, action).unwrap();
+    fn insert(&mut self, place: usize, action: Action) -> Result<(), HistoryFault> {
+        check_insert(place, self.actions.len(), self.places)?;
+        self.actions.insert(place, action).unwrap();
         Ok(())
     }
 
-    fn remove(&mut self, i: usize) -> Result<Action, HistoryFault> {
-        check_place(i, self.actions.len())?;
-        Ok(self.actions.remove(i))
+    fn remove(&mut self, place: usize) -> Result<Action, HistoryFault> {
+        check_place(place, self.actions.len())?;
+        Ok(self.actions.remove(place))
     }
 }

@@ -8,10 +8,10 @@ use crate::strip::Strip;
 use action::Action;
 use either::{Either, for_both};
 
-// A rack or a strip, as is chosen when it is made.
+/// A rack or a strip, whichever was chosen when it was made.
 pub type RackOrStrip = Either<Rack, Strip>;
 
-// A history of one of two ways to keep it.
+// Of two makes of history either is a history.
 impl<L: History, R: History> History for Either<L, R> {
     ghost items = { either L.items R.items };
 
@@ -27,15 +27,15 @@ impl<L: History, R: History> History for Either<L, R> {
         for_both!(self, history => history.capacity())
     }
 
-    fn read(&self, i: usize) -> Result<Action, HistoryFault> {
-        for_both!(self, history => history.read(i))
+    fn read(&self, place: usize) -> Result<Action, HistoryFault> {
+        for_both!(self, history => history.read(place))
     }
 
-    fn insert(&mut self, i: usize, action: Action) -> Result<(), HistoryFault> {
-        for_both!(self, history => history.insert(i, action))
+    fn insert(&mut self, place: usize, action: Action) -> Result<(), HistoryFault> {
+        for_both!(self, history => history.insert(place, action))
     }
 
-    fn remove(&mut self, i: usize) -> Result<Action, HistoryFault> {
-        for_both!(self, history => history.remove(i))
+    fn remove(&mut self, place: usize) -> Result<Action, HistoryFault> {
+        for_both!(self, history => history.remove(place))
     }
 }

@@ -4,7 +4,7 @@ ghost use Rattle.history.specs.Walks.{left};
 use crate::history::History;
 use action::Action;
 
-// The actions of a history from a place on, in their places.
+/// The actions of a history that are left to go over, in the order of their places.
 #[derive(Drop)]
 pub struct Walk<'a, H> {
     pub(crate) history: &'a H,
@@ -28,8 +28,7 @@ impl<'a, H: History> Iterator for Walk<'a, H> {
     }
 }
 
-// All actions of a history, in their places. It has a file of its own, since two names of one file that
-// differ in case alone are refused.
+/// Goes over all actions of a history, from the first place on.
 pub fn actions<H: History>(history: &H) -> Walk<'_, H>
     ensures { left H.items result ≡ H.items history.now }
 {

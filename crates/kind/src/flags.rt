@@ -5,16 +5,16 @@ ghost use Rattle.kind.specs.FlagsLaws.{flags_commute, flags_fits, flags_unknown}
 
 use crate::kind::Kind;
 
-// Flags, a bit for each: kind 2.
+/// Up to 24 flags, each a bit of the figure: kind 2 (docs/RULES.md, section 4.3).
 #[derive(Clone, Copy, Debug, PartialEq, Eq)]
 pub struct Flags;
 
 impl Flags {
-    // The one operation, by the number that actions have for it: it switches on the flags of the amount.
+    /// The operation that switches on the flags whose bits the amount has.
     pub const SWITCH_ON: u8 = 1;
 }
 
-// All 24 flags.
+// The amount that has all 24 flags.
 const ALL_FLAGS: i32 = 16_777_215;
 
 impl Kind for Flags {

@@ -2,14 +2,13 @@ ghost use Rattle.std.specs.Prelude.{◌≡◌, ℕ, ◌≤◌, true, false, ℤ,
 ghost use Rattle.std.specs.Int.{w64};
 ghost use Rattle.kind.specs.Meaning.{Meaning};
 
-// A kind of figure. A figure is a signed number of 64 bits. An action changes it by an operation, from
-// 0 to 255, and an amount, a signed number of 32 bits; each kind knows some of these pairs. The two stand
-// apart, as they do in an action, in a message and in the calls of a table.
+/// A kind of figure: what an article's figure starts at, and what an action's operation and amount do to it.
+/// docs/RULES.md, section 4, has the kinds, and what the author of another one has to prove.
 pub trait Kind {
-    // How messages name the kind: a number and no enum, since anyone may add a kind.
+    /// How messages and tickets name the kind.
     const NUMBER: u8;
 
-    // The figure of an article before its first action.
+    /// The figure of an article before its first action.
     const START: i64;
 
     ghost NUMBER: { ℕ };
@@ -18,17 +17,21 @@ pub trait Kind {
 
     ghost means: { Meaning };
 
+    /// Whether the kind has a meaning for this operation with this amount.
     fn is_known(operation: u8, amount: i32) -> bool
         ensures { result ≡ means.knows operation amount };
 
+    /// The figure after such an action. An unknown pair leaves it.
     fn step(figure: i64, operation: u8, amount: i32) -> i64
         ensures { result ≡ means.steps figure operation amount };
 
+    /// Whether two actions give the same figure in either order; a table of such a kind need not work again
+    /// what it has worked.
     fn is_commuting() -> bool
         ensures { result ≡ means.commutes };
 
-    // The laws, which the author of a kind proves. Those of the pairs are asked of every operation and every
-    // amount, also of those that no action can hold.
+    // The laws, which the author of a kind proves. Those on pairs are asked of every operation and every amount,
+    // also of those that no action can hold.
 
     // The constants are the number and the start figure that the kind means.
     ghost numbered: { NUMBER ≡ means.number };

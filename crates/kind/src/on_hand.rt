@@ -5,12 +5,12 @@ ghost use Rattle.kind.specs.OnHandLaws.{on_hand_commutes, on_hand_fits, on_hand_
 
 use crate::kind::Kind;
 
-// How many are on hand: kind 1.
+/// How many pieces are on hand: kind 1 (docs/RULES.md, section 4.2).
 #[derive(Clone, Copy, Debug, PartialEq, Eq)]
 pub struct OnHand;
 
 impl OnHand {
-    // The one operation, by the number that actions have for it: it adds the amount.
+    /// The operation that adds the amount, which is below 0 where pieces go out.
     pub const ADD: u8 = 1;
 }
 

@@ -8,18 +8,19 @@ ghost use Rattle.kind.specs.PriceLaws.{price_fits, price_unknown};
 
 use crate::kind::Kind;
 
-// A price in cents: kind 3.
+/// A price in cents: kind 3 (docs/RULES.md, section 4.4).
 #[derive(Clone, Copy, Debug, PartialEq, Eq)]
 pub struct Price;
 
 impl Price {
-    // The operation that sets the price to the amount.
+    /// The operation that sets the price to the amount, in cents.
     pub const SET: u8 = 1;
 
-    // The operation that raises it by so many thousandths.
+    /// The operation that adds so many thousandths of the price; below 0 they are taken off.
     pub const RAISE: u8 = 2;
 }
 
+// The highest price, in cents.
 const HIGHEST: i64 = 99_999_999;
 
 // The most thousandths of the price that one action may add or take away.

@@ -14,5 +14,7 @@ pub use actions::Actions;
 pub use intervals::{FoundInterval, Intervals};
 pub use reader::{Reader, check};
 pub use reader_fault::ReaderFault;
-pub use record::{HEADER_BYTES, Header, INTERVAL_BYTES, Interval, Record, SECTION_BYTES, SectionHead, put};
+pub use record::{
+    HEADER_BYTES, Header, INTERVAL_BYTES, Interval, Record, SECTION_BYTES, SectionHead, put,
+};
 pub use records::{FoundRecord, sender_of};

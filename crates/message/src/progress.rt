@@ -102,7 +102,11 @@ impl Progress {
         Ok(())
     }
 
-    fn admit_section<K: Kind>(&mut self, setup: &Setup, head: &SectionHead) -> Result<(), UnplacedFault>
+    fn admit_section<K: Kind>(
+        &mut self,
+        setup: &Setup,
+        head: &SectionHead,
+    ) -> Result<(), UnplacedFault>
         ensures { Admits K.means setup.now self.old (SectionRecord head.now) result self.new }
     {
         if !self.is_lawful_section(setup, head) {
@@ -120,7 +124,11 @@ impl Progress {
         Ok(())
     }
 
-    fn admit_interval<K: Kind>(&mut self, setup: &Setup, interval: &Interval) -> Result<(), UnplacedFault>
+    fn admit_interval<K: Kind>(
+        &mut self,
+        setup: &Setup,
+        interval: &Interval,
+    ) -> Result<(), UnplacedFault>
         ensures { Admits K.means setup.now self.old (IntervalRecord interval.now) result self.new }
     {
         if !self.is_lawful_interval(setup, interval) {
@@ -149,7 +157,11 @@ impl Progress {
     }
 
     // Goes on by a record; where a field rule refuses it nothing changes.
-    pub(crate) fn admit<K: Kind>(&mut self, setup: &Setup, record: &Record) -> Result<(), UnplacedFault>
+    pub(crate) fn admit<K: Kind>(
+        &mut self,
+        setup: &Setup,
+        record: &Record,
+    ) -> Result<(), UnplacedFault>
         ensures { Admits K.means setup.now self.old «record».now result self.new }
     {
         match record {

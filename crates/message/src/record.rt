@@ -90,7 +90,7 @@ impl Interval {
     }
 }
 
-/// A record of a message (docs/MESSAGES.md, section 2).
+/// A record of a message (docs/MESSAGES.md, section 1).
 #[derive(Clone, Copy, Debug, PartialEq, Eq)]
 pub enum Record {
     Header(Header),

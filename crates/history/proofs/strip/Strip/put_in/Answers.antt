@@ -11,7 +11,7 @@ use Rattle.history.proofs.strip.Strip.put_in.Goals as goal
 
 pub invariant_of-self-clause-recorded : goal.invariant_of-self-clause-recorded
 invariant_of-self-clause-recorded c =
-    let i = c.args.i in
+    let i = c.args.place in
     let n = c.args.self.now.used in
     let k = i * 16 + 16 - i * 16 in
     let ws = c.deref_mut.result.now in
@@ -27,7 +27,7 @@ invariant_of-self-clause-recorded c =
 pub returns : goal.returns
 returns c =
     let a = c.args.action in
-    let i = c.args.i in
+    let i = c.args.place in
     let n = c.args.self.now.used in
     let k = i * 16 + 16 - i * 16 in
     let xs = vec_items c.args.self.now.bytes in
