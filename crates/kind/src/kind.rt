@@ -25,8 +25,8 @@ pub trait Kind {
     fn step(figure: i64, operation: u8, amount: i32) -> i64
         ensures { result ≡ means.steps figure operation amount };
 
-    /// Whether two actions give the same figure in either order; a table of such a kind need not work again
-    /// what it has worked.
+    /// Whether the order of actions makes no difference to the figure. A table of such a kind steps its figures on
+    /// where one of another kind works them anew.
     fn is_commuting() -> bool
         ensures { result ≡ means.commutes };
 
