@@ -1,4 +1,3 @@
-// What the sites are known to have reached.
 ghost use Rattle.std.specs.Prelude.{◌≡◌, length, replicate, fold, map, if◌then◌else◌, ◌+◌, ◌≤◌};
 ghost use Rattle.std.specs.List.{range_with_len};
 ghost use Rattle.std.specs.Fn.{FnOnceReturnsAtMut};
@@ -13,23 +12,22 @@ ghost use Rattle.row.specs.Sorting.{Sorted};
 
 use crate::place::insert_in_order;
 use crate::row::Row;
-use action::{Action, Setup};
+use action::{Action, MOST_ARTICLES, MOST_SITES, Setup};
 use history::{History, actions};
 use kind::Kind;
 use message::{Actions, FoundInterval, Intervals, sender_of};
 
-// What a table keeps of all its articles, with room for as many as a group may have, since it takes no
-// memory later. The set-up is kept beside them, though each change has to say that it stays: nearly every
-// function asks for the own site or the number of sites, and would be lent it.
+/// The rows of a table, with room for all articles that a group may have.
 #[derive(Drop)]
 pub struct Ledger {
     pub setup: Setup,
-    pub rows: [Row; 64],
+    /// By article. The table uses the first of them, as many as its set-up has articles.
+    pub rows: [Row; MOST_ARTICLES],
     ghost each_article: { length rows ≡ 64 },
 }
 
 impl Ledger {
-    // A ledger of articles that all have this figure, and of which no site has reached anything.
+    /// A ledger in which all articles have this figure and all known entries are 0.
     pub fn new(setup: Setup, figure: i64) -> Ledger
         ensures setup { result.setup ≡ setup }
         ensures rows { result.rows ≡ replicate 64 (start_row figure) }
@@ -37,46 +35,24 @@ impl Ledger {
         let row = Row {
             base: figure,
             kept: figure,
-            known: [[0; 8]; 8],
+            known: [[0; MOST_SITES]; MOST_SITES],
         };
         Ledger {
             setup,
-            rows: [row; 64],
+            rows: [row; MOST_ARTICLES],
         }
     }
 
-    // An article's known entry, 0 where there is none.
-    pub fn entry(&self, article: u8, z: u8, q: u8) -> u32
-        ensures { result ≡ entry_in self.now.rows article z q }
+    /// An article's known entry, 0 where there is none.
+    pub fn entry(&self, article: u8, knower: u8, coordinator: u8) -> u32
+        ensures { result ≡ entry_in self.now.rows article knower coordinator }
     {
         self.rows
             .get(usize::from(article))
-            .map_or(0, |row| row.entry(z, q))
+            .map_or(0, |row| row.entry(knower, coordinator))
     }
 
-    // Has the table not reached the action yet?
-    pub(crate) fn is_new(&self, action: &Action) -> bool
-        ensures { result ≡ is_new_in self.now.rows self.now.setup.own action.now }
-    {
-        self.entry(action.article, self.setup.own, action.coordinator) < action.time
-    }
-
-    // The least of a time and the article's known entries of site `z`.
-    fn least_of(&self, article: u8, time: u32, z: u8) -> u32
-        ensures { result ≡ least_of_in self.now.rows self.now.setup.sites article time z }
-    {
-        (0..self.setup.sites).fold(time, |least, q| least.min(self.entry(article, z, q)))
-    }
-
-    // The least of a time and the article's known entries of all sites.
-    fn least_of_all(&self, article: u8, time: u32) -> u32
-        ensures { let sites = self.now.setup.sites in
-            result ≡ fold (least_of_in self.now.rows sites article) time (range_with_len 0 sites) }
-    {
-        (0..self.setup.sites).fold(time, |least, z| self.least_of(article, least, z))
-    }
-
-    // The least of all the article's known entries, over all pairs of sites.
+    /// The least of the article's known entries. Every site is known to have all actions on it up to this time.
     pub fn least_entry(&self, article: u8) -> u32
         ensures { result ≡ least_in self.now.rows self.now.setup.sites article }
     {
@@ -84,24 +60,7 @@ impl Ledger {
         self.least_of_all(article, first)
     }
 
-    // Does the interval begin above what the table has reached?
-    fn is_behind(&self, found: &FoundInterval) -> bool
-        ensures { result ≡ is_behind_in self.now.rows self.now.setup.own found.now.article found.now.interval }
-    {
-        let interval = found.interval;
-        self.entry(found.article, self.setup.own, interval.site) < interval.from
-    }
-
-    // Does the interval say more of the own site than the site has done?
-    fn is_ahead(&self, found: &FoundInterval) -> bool
-        ensures { result ≡ is_ahead_in self.now.rows self.now.setup.own found.now.article found.now.interval }
-    {
-        let own = self.setup.own;
-        let interval = found.interval;
-        interval.site == own && self.entry(found.article, own, own) < interval.to
-    }
-
-    // Where the message's first interval stands that begins above what the table has reached.
+    /// The offset of the message's first interval that begins above what the table has: the place of refusal 13.
     pub fn first_behind(&self, bytes: &[u8]) -> Option<usize>
         ensures { result ≡ first_place (is_behind_in self.now.rows self.now.setup.own) 0 0 (records_in bytes.now) }
     {
@@ -110,9 +69,7 @@ impl Ledger {
             .map(|found| found.offset)
     }
 
-    // Where the message's first interval stands that says more of the own site than it has done. One function
-    // for this and the one before would say in its contract what the test answers, which is longer than the
-    // chain.
+    /// The offset of the message's first interval that goes beyond the own site's actions: the place of refusal 14.
     pub fn first_ahead(&self, bytes: &[u8]) -> Option<usize>
         ensures { result ≡ first_place (is_ahead_in self.now.rows self.now.setup.own) 0 0 (records_in bytes.now) }
     {
@@ -121,88 +78,7 @@ impl Ledger {
             .map(|found| found.offset)
     }
 
-    // Changes the row of an article, where there is one, as the closure does.
-    pub(crate) fn on_row<F: FnOnce(&mut Row)>(&mut self, article: u8, change: F)
-        requires { F.IsAlwaysCallable change }
-        ensures rows { (f : ARow → ARow) → ((r s : ARow) → FnOnceReturnsAtMut F.FnOnce change r tt s → s ≡ f r)
-            → self.new.rows ≡ changed_row f self.old.rows article }
-        ensures fixed { self.new.setup ≡ self.old.setup }
-    {
-        // By an index and not `get_mut`, for the reason that `Row::raise` has.
-        let article = usize::from(article);
-        if article < self.rows.len() {
-            change(&mut self.rows[article]);
-        }
-    }
-
-    // Raises the own entry of each action's article to the action's time.
-    pub fn raise_posted(&mut self, actions: &[Action])
-        ensures rows { self.new.rows ≡ posted_rows self.old.setup.own self.old.rows actions.now }
-        ensures fixed { self.new.setup ≡ self.old.setup }
-    {
-        let own = self.setup.own;
-        for action in actions {
-            self.on_row(action.article, |row| row.raise(own, own, action.time));
-        }
-    }
-
-    // Steps the kept figure of the action's article.
-    pub(crate) fn step<K: Kind>(&mut self, action: &Action)
-        ensures rows { self.new.rows ≡ on_row (stepped_row K.means.steps) self.old.rows action.now }
-        ensures fixed { self.new.setup ≡ self.old.setup }
-    {
-        self.on_row(action.article, |row| row.step::<K>(action));
-    }
-
-    // Steps the kept figures by the actions, in order.
-    #[tactic(auto, using(std::proofs::lemmas::List::Sums::fold_more))]
-    fn step_all<K: Kind>(&mut self, actions: &[Action])
-        ensures rows { self.new.rows ≡ stepped_rows K.means.steps self.old.rows actions.now }
-        ensures fixed { self.new.setup ≡ self.old.setup }
-    {
-        for action in actions {
-            self.step::<K>(action);
-        }
-    }
-
-    // Sets every kept figure back to its base.
-    #[tactic(auto, using(std::proofs::lemmas::List::Edits::map_over_more))]
-    fn restart(&mut self)
-        ensures rows { self.new.rows ≡ map restarted self.old.rows }
-        ensures fixed { self.new.setup ≡ self.old.setup }
-    {
-        for row in &mut self.rows {
-            row.restart();
-        }
-    }
-
-    // Works every figure again, from its base by the history.
-    pub(crate) fn rework<K: Kind, H: History>(&mut self, history: &H)
-        ensures rows { self.new.rows ≡ reworked_rows K.means.steps self.old.rows (H.items history.now) }
-        ensures fixed { self.new.setup ≡ self.old.setup }
-    {
-        self.restart();
-        for action in actions(history) {
-            self.step::<K>(&action);
-        }
-    }
-
-    // Works the figures after new actions have gone into the history: a commuting kind steps the kept
-    // figures by the new actions alone, any other works again.
-    pub fn work<K: Kind, H: History>(&mut self, history: &H, new: &[Action])
-        ensures rows { self.new.rows ≡ (if K.means.commutes
-            then stepped_rows K.means.steps self.old.rows new.now
-            else reworked_rows K.means.steps self.old.rows (H.items history.now)) }
-        ensures fixed { self.new.setup ≡ self.old.setup }
-    {
-        if K::is_commuting() {
-            self.step_all::<K>(new);
-        } else {
-            self.rework::<K, H>(history);
-        }
-    }
-
-    // How many of the message's actions are new to the table.
+    /// How many of the message's actions are new to the table (docs/RULES.md, section 12).
     pub fn count_new(&self, bytes: &[u8]) -> usize
         ensures { result ≡ length (new_actions self.now.rows self.now.setup.own bytes.now) }
     {
@@ -211,7 +87,7 @@ impl Ledger {
             .count()
     }
 
-    // Puts the message's new actions at their places in the history.
+    /// Puts the message's new actions into the history, each at its place in the order of actions.
     pub fn insert_new<H: History>(&self, history: &mut H, bytes: &[u8])
         requires sorted { Sorted (H.items history.old) }
         requires room { length (H.items history.old) + length (new_actions self.now.rows self.now.setup.own bytes.now)
@@ -227,36 +103,19 @@ impl Ledger {
         }
     }
 
-    // Steps the kept figures by the message's new actions. A step changes no known entry, so it does
-    // not change what is new.
-    #[tactic(auto, using(crate::proofs::Stepping::entry_stepped))]
-    fn step_new<K: Kind>(&mut self, bytes: &[u8])
-        ensures rows { self.new.rows ≡ stepped_rows K.means.steps self.old.rows
-            (new_actions self.old.rows self.old.setup.own bytes.now) }
-        ensures fixed { self.new.setup ≡ self.old.setup }
-    {
-        for carried in Actions::new(bytes) {
-            if self.is_new(&carried) {
-                self.step::<K>(&carried);
-            }
-        }
-    }
-
-    // Raises the own entry and the sender's to what an interval goes up to.
-    fn raise_by(&mut self, sender: u8, found: &FoundInterval)
-        ensures rows { self.new.rows ≡ raised_rows self.old.setup.own sender self.old.rows (told found.now) }
+    /// Raises the own entry of each action's article to the action's time.
+    pub fn raise_posted(&mut self, actions: &[Action])
+        ensures rows { self.new.rows ≡ posted_rows self.old.setup.own self.old.rows actions.now }
         ensures fixed { self.new.setup ≡ self.old.setup }
     {
         let own = self.setup.own;
-        let interval = found.interval;
-        self.on_row(found.article, |row| {
-            row.raise(own, interval.site, interval.to);
-            row.raise(sender, interval.site, interval.to);
-        });
+        for action in actions {
+            self.on_row(action.article, |row| row.raise(own, own, action.time));
+        }
     }
 
-    // Raises the entries by all intervals of the message, and answers the clock raised to the greatest
-    // time that they go up to.
+    /// Raises the known entries by all intervals of the message (docs/RULES.md, section 12).
+    /// Answers the clock, raised to the latest time to which an interval goes.
     pub fn raise_all(&mut self, bytes: &[u8], clock: u32) -> u32
         ensures times { result ≡ latest_to clock (intervals_of 0 (records_in bytes.now)) }
         ensures rows { self.new.rows ≡ raised_by_message self.old.setup.own bytes.now self.old.rows }
@@ -271,9 +130,23 @@ impl Ledger {
         time
     }
 
-    // Raises the entries and works the figures by a message whose new actions are in the history: a
-    // commuting kind steps the kept figures by these alone, any other works again. Answers the clock
-    // raised to the greatest time that the message goes up to.
+    /// Works the kept figures after the new actions have gone into the history. A kind that commutes steps them by
+    /// the new actions alone, any other works them from the bases by the whole history.
+    pub fn work<K: Kind, H: History>(&mut self, history: &H, new: &[Action])
+        ensures rows { self.new.rows ≡ (if K.means.commutes
+            then stepped_rows K.means.steps self.old.rows new.now
+            else reworked_rows K.means.steps self.old.rows (H.items history.now)) }
+        ensures fixed { self.new.setup ≡ self.old.setup }
+    {
+        if K::is_commuting() {
+            self.step_all::<K>(new);
+        } else {
+            self.rework::<K, H>(history);
+        }
+    }
+
+    /// Works the kept figures and raises the known entries by a message whose new actions are in the history.
+    /// Answers the clock as `raise_all` does.
     pub fn record<K: Kind, H: History>(&mut self, history: &H, bytes: &[u8], clock: u32) -> u32
         ensures times { result ≡ latest_to clock (intervals_of 0 (records_in bytes.now)) }
         ensures rows { let steps = K.means.steps in
@@ -292,5 +165,130 @@ impl Ledger {
         let time = self.raise_all(bytes, clock);
         self.rework::<K, H>(history);
         time
+    }
+
+    // Is the action later than what the table has of its coordinator?
+    pub(crate) fn is_new(&self, action: &Action) -> bool
+        ensures { result ≡ is_new_in self.now.rows self.now.setup.own action.now }
+    {
+        self.entry(action.article, self.setup.own, action.coordinator) < action.time
+    }
+
+    // The least of a time and of the article's known entries of all knowers.
+    fn least_of_all(&self, article: u8, time: u32) -> u32
+        ensures { let sites = self.now.setup.sites in
+            result ≡ fold (least_of_in self.now.rows sites article) time (range_with_len 0 sites) }
+    {
+        (0..self.setup.sites).fold(time, |least, knower| {
+            self.least_of(article, least, knower)
+        })
+    }
+
+    // The least of a time and of the article's known entries of one knower.
+    fn least_of(&self, article: u8, time: u32, knower: u8) -> u32
+        ensures { result ≡ least_of_in self.now.rows self.now.setup.sites article time knower }
+    {
+        (0..self.setup.sites).fold(time, |least, coordinator| {
+            least.min(self.entry(article, knower, coordinator))
+        })
+    }
+
+    // Does the interval begin above what the table has?
+    fn is_behind(&self, found: &FoundInterval) -> bool
+        ensures { result ≡ is_behind_in self.now.rows self.now.setup.own found.now.article found.now.interval }
+    {
+        let interval = found.interval;
+        self.entry(found.article, self.setup.own, interval.site) < interval.from
+    }
+
+    // Does the interval go beyond the own site's actions?
+    fn is_ahead(&self, found: &FoundInterval) -> bool
+        ensures { result ≡ is_ahead_in self.now.rows self.now.setup.own found.now.article found.now.interval }
+    {
+        let own = self.setup.own;
+        let interval = found.interval;
+        interval.site == own && self.entry(found.article, own, own) < interval.to
+    }
+
+    // Raises the entries of the own site and of the sender to where the interval ends.
+    fn raise_by(&mut self, sender: u8, found: &FoundInterval)
+        ensures rows { self.new.rows ≡ raised_rows self.old.setup.own sender self.old.rows (told found.now) }
+        ensures fixed { self.new.setup ≡ self.old.setup }
+    {
+        let own = self.setup.own;
+        let interval = found.interval;
+        self.on_row(found.article, |row| {
+            row.raise(own, interval.site, interval.to);
+            row.raise(sender, interval.site, interval.to);
+        });
+    }
+
+    // Steps the kept figures by the actions, in order.
+    #[tactic(auto, using(std::proofs::lemmas::List::Sums::fold_more))]
+    fn step_all<K: Kind>(&mut self, actions: &[Action])
+        ensures rows { self.new.rows ≡ stepped_rows K.means.steps self.old.rows actions.now }
+        ensures fixed { self.new.setup ≡ self.old.setup }
+    {
+        for action in actions {
+            self.step::<K>(action);
+        }
+    }
+
+    // Steps the kept figures by the message's new actions. A step raises no known entry, so it does not change
+    // what is new.
+    #[tactic(auto, using(crate::proofs::Stepping::entry_stepped))]
+    fn step_new<K: Kind>(&mut self, bytes: &[u8])
+        ensures rows { self.new.rows ≡ stepped_rows K.means.steps self.old.rows
+            (new_actions self.old.rows self.old.setup.own bytes.now) }
+        ensures fixed { self.new.setup ≡ self.old.setup }
+    {
+        for carried in Actions::new(bytes) {
+            if self.is_new(&carried) {
+                self.step::<K>(&carried);
+            }
+        }
+    }
+
+    // Works every kept figure anew, from its base by the history.
+    pub(crate) fn rework<K: Kind, H: History>(&mut self, history: &H)
+        ensures rows { self.new.rows ≡ reworked_rows K.means.steps self.old.rows (H.items history.now) }
+        ensures fixed { self.new.setup ≡ self.old.setup }
+    {
+        self.restart();
+        for action in actions(history) {
+            self.step::<K>(&action);
+        }
+    }
+
+    // Sets every kept figure back to its base.
+    #[tactic(auto, using(std::proofs::lemmas::List::Edits::map_over_more))]
+    fn restart(&mut self)
+        ensures rows { self.new.rows ≡ map restarted self.old.rows }
+        ensures fixed { self.new.setup ≡ self.old.setup }
+    {
+        for row in &mut self.rows {
+            row.restart();
+        }
+    }
+
+    // Steps the kept figure of the action's article.
+    pub(crate) fn step<K: Kind>(&mut self, action: &Action)
+        ensures rows { self.new.rows ≡ on_row (stepped_row K.means.steps) self.old.rows action.now }
+        ensures fixed { self.new.setup ≡ self.old.setup }
+    {
+        self.on_row(action.article, |row| row.step::<K>(action));
+    }
+
+    // Changes the row of an article, where there is one.
+    pub(crate) fn on_row<F: FnOnce(&mut Row)>(&mut self, article: u8, change: F)
+        requires { F.IsAlwaysCallable change }
+        ensures rows { (f : ARow → ARow) → ((r s : ARow) → FnOnceReturnsAtMut F.FnOnce change r tt s → s ≡ f r)
+            → self.new.rows ≡ changed_row f self.old.rows article }
+        ensures fixed { self.new.setup ≡ self.old.setup }
+    {
+        let article = usize::from(article);
+        if article < self.rows.len() {
+            change(&mut self.rows[article]);
+        }
     }
 }

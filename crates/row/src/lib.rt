@@ -1,5 +1,4 @@
-// What a table keeps of each article, and the passes over its rows, its history and a message that a
-// table's calls are made of.
+// What a table keeps of each article, and the passes of its calls over rows, history and messages.
 #![tactic(auto)]
 
 mod archive;

@@ -1,4 +1,3 @@
-// The history's places: what stands at one, and where an action belongs.
 ghost use Rattle.std.specs.Prelude.{◌≡◌, ◌+◌, ◌<◌, ◌≤◌, ◌++◌, length, slice_index_or};
 ghost use Rattle.std.specs.List.{remove};
 ghost use Rattle.action.specs.Order.{placed, place_of};
@@ -7,25 +6,33 @@ ghost use Rattle.row.specs.Sorting.{Sorted};
 use action::Action;
 use history::History;
 
-// The action at a place that the history has.
-pub(crate) fn place<H: History>(history: &H, i: usize) -> Action
-    requires { i < length (H.items history.now) }
-    ensures { result ≡ slice_index_or (H.items history.now) i result }
-{
-    history.read(i).unwrap()
-}
-
-// Takes out the action at a place that the history has.
-pub(crate) fn take_out<H: History>(history: &mut H, i: usize)
-    requires { i < length (H.items history.old) }
-    ensures list { H.items history.new ≡ remove (H.items history.old) i }
+/// Puts the actions at the end of the history, which has room for them.
+pub fn append<H: History>(history: &mut H, actions: &[Action])
+    requires { length (H.items history.old) + length actions.now ≤ H.room history.old }
+    ensures list { H.items history.new ≡ H.items history.old ++ actions.now }
     ensures fixed { H.room history.new ≡ H.room history.old }
 {
-    history.remove(i).unwrap();
+    for action in actions {
+        let end = history.count();
+        history.insert(end, *action).unwrap();
+    }
 }
 
-// The place behind the last action that precedes this one. What comes is mostly later than all that is there,
-// so the end is looked at first; else the place is looked for by halves.
+// Puts the action at its place in the history, which stays sorted.
+#[tactic(auto, using(crate::proofs::Sorting::placed_sorted))]
+pub(crate) fn insert_in_order<H: History>(history: &mut H, action: &Action)
+    requires room { length (H.items history.old) < H.room history.old }
+    requires sorted { Sorted (H.items history.old) }
+    ensures sorted { Sorted (H.items history.new) }
+    ensures list { H.items history.new ≡ placed (H.items history.old) action.now }
+    ensures fixed { H.room history.new ≡ H.room history.old }
+{
+    let i = place_of(history, action);
+    history.insert(i, *action).unwrap();
+}
+
+// The place after the last action that precedes this one. Most actions come in order, so the last one is looked
+// at first; otherwise the place is found by halves.
 fn place_of<H: History>(history: &H, action: &Action) -> usize
     requires { Sorted (H.items history.now) }
     ensures { result ≡ place_of (H.items history.now) action.now }
@@ -46,27 +53,19 @@ fn place_of<H: History>(history: &H, action: &Action) -> usize
     low
 }
 
-// Puts the action at its place in the history, which stays sorted.
-#[tactic(auto, using(crate::proofs::Sorting::placed_sorted))]
-pub(crate) fn insert_in_order<H: History>(history: &mut H, action: &Action)
-    requires room { length (H.items history.old) < H.room history.old }
-    requires sorted { Sorted (H.items history.old) }
-    ensures sorted { Sorted (H.items history.new) }
-    ensures list { H.items history.new ≡ placed (H.items history.old) action.now }
-    ensures fixed { H.room history.new ≡ H.room history.old }
+// The action at a place in use.
+pub(crate) fn place<H: History>(history: &H, i: usize) -> Action
+    requires { i < length (H.items history.now) }
+    ensures { result ≡ slice_index_or (H.items history.now) i result }
 {
-    let i = place_of(history, action);
-    history.insert(i, *action).unwrap();
+    history.read(i).unwrap()
 }
 
-// Puts the actions at the end of the history.
-pub fn append<H: History>(history: &mut H, actions: &[Action])
-    requires { length (H.items history.old) + length actions.now ≤ H.room history.old }
-    ensures list { H.items history.new ≡ H.items history.old ++ actions.now }
+// Takes out the action at a place in use.
+pub(crate) fn take_out<H: History>(history: &mut H, i: usize)
+    requires { i < length (H.items history.old) }
+    ensures list { H.items history.new ≡ remove (H.items history.old) i }
     ensures fixed { H.room history.new ≡ H.room history.old }
 {
-    for action in actions {
-        let end = history.count();
-        history.insert(end, *action).unwrap();
-    }
+    history.remove(i).unwrap();
 }

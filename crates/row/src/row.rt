@@ -2,42 +2,42 @@ ghost use Rattle.std.specs.Prelude.{◌≡◌};
 ghost use Rattle.row.specs.Entries.{at};
 ghost use Rattle.row.specs.Rows.{raised_row, restarted, stepped_row};
 
-use action::Action;
+use action::{Action, MOST_SITES};
 use kind::Kind;
 
-// What is kept of one article: the figure up to where the history begins, the figure with the
-// history, and `known[z][q]`, up to what time site z is known to have the actions of site q, with room for
-// as many sites as a group may have, since a table takes no memory later.
+/// What is kept of one article: two figures, and up to what time each site is known to have every site's actions.
 #[derive(Clone, Copy)]
 pub struct Row {
+    /// The figure before the actions on the article that the history holds.
     pub base: i64,
+    /// The figure with these actions too.
     pub kept: i64,
-    pub known: [[u32; 8]; 8],
+    /// The known entries (docs/RULES.md, section 1), by the knower and then by the coordinator.
+    pub known: [[u32; MOST_SITES]; MOST_SITES],
 }
 
 impl Row {
-    // `known[z][q]`, 0 where there is no such entry.
-    pub(crate) fn entry(&self, z: u8, q: u8) -> u32
-        ensures { result ≡ at self.now.known z q }
+    // A known entry, 0 where there is none.
+    pub(crate) fn entry(&self, knower: u8, coordinator: u8) -> u32
+        ensures { result ≡ at self.now.known knower coordinator }
     {
         self.known
-            .get(usize::from(z))
-            .and_then(|entries| entries.get(usize::from(q)))
+            .get(usize::from(knower))
+            .and_then(|entries| entries.get(usize::from(coordinator)))
             .copied()
             .unwrap_or(0)
     }
 
-    // Raises `known[z][q]` to a time, where there is such an entry and it is lower.
-    pub(crate) fn raise(&mut self, z: u8, q: u8, to: u32)
-        ensures { self.new ≡ raised_row z q to self.old }
+    // Raises a known entry to a time, where there is such an entry and it is lower.
+    pub(crate) fn raise(&mut self, knower: u8, coordinator: u8, to: u32)
+        ensures { self.new ≡ raised_row knower coordinator to self.old }
     {
-        // By indices: `get_mut` of the array or of it as a slice was tried, and leaves the proof not knowing
-        // what the array holds once the element is given back.
-        let q = usize::from(q);
-        if z < 8 {
-            let entries: &mut [u32] = &mut self.known[usize::from(z)];
-            if q < entries.len() {
-                entries[q] = entries[q].max(to);
+        let knower = usize::from(knower);
+        let coordinator = usize::from(coordinator);
+        if knower < MOST_SITES {
+            let entries: &mut [u32] = &mut self.known[knower];
+            if coordinator < entries.len() {
+                entries[coordinator] = entries[coordinator].max(to);
             }
         }
     }
