@@ -9,9 +9,27 @@ use history::History;
 use kind::Kind;
 use row::move_actions;
 
+impl<K: Kind, H: History> Table<K, H> {
+    /// Moves an article's actions up to the least of its known entries, which every site is known to have, from the
+    /// history into the base. Answers how many they were (docs/RULES.md, section 13).
+    pub fn archive(&mut self, article: u8) -> Result<usize, TableFault>
+        ensures does { Archived K.means self.old article result self.new }
+        ensures sound { Sound K.means self.new }
+    {
+        self.store.archive::<K>(article)
+    }
+}
+
 impl<H: History> Store<H> {
-    // Moves the article's actions up to the least of its known entries, which every site is known to have,
-    // from the history into the base. Answers how many they were.
+    fn archive<K: Kind>(&mut self, article: u8) -> Result<usize, TableFault>
+        ensures { Archived K.means self.old article result self.new }
+    {
+        self.state.check_closed()?;
+        self.state.check_article(article)?;
+        Ok(self.move_to_base::<K>(article))
+    }
+
+    // Moves the actions that are archived, and answers how many they were.
     fn move_to_base<K: Kind>(&mut self, article: u8) -> usize
         requires { article < 64 }
         ensures count { result ≡ length (olds self.old article) }
@@ -20,31 +38,9 @@ impl<H: History> Store<H> {
         let ledger = &mut self.state.ledger;
         let time = ledger.least_entry(article);
         let at = usize::from(article);
-        // A copy is lent: of a field that is lent in place the proof does not know that it fits 64 bits.
         let mut base = ledger.rows[at].base;
         let gone = move_actions::<K, H>(&mut base, &mut self.history, article, time);
         ledger.rows[at].base = base;
         gone
-    }
-
-    // Archives an article, or refuses to and changes nothing.
-    fn archive<K: Kind>(&mut self, article: u8) -> Result<usize, TableFault>
-        ensures { Archived K.means self.old article result self.new }
-    {
-        self.state.check_closed()?;
-        self.state.check_article(article)?;
-        Ok(self.move_to_base::<K>(article))
-    }
-}
-
-impl<K: Kind, H: History> Table<K, H> {
-    // Works an article's actions up to the least of its known entries, which every site is known to have,
-    // into its base, and removes them from the history. Later ones stay, even where every site has them.
-    // Answers how many it removed.
-    pub fn archive(&mut self, article: u8) -> Result<usize, TableFault>
-        ensures does { Archived K.means self.old article result self.new }
-        ensures sound { Sound K.means self.new }
-    {
-        self.store.archive::<K>(article)
     }
 }

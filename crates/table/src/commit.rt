@@ -15,41 +15,26 @@ use history::History;
 use kind::Kind;
 use row::append;
 
-// Writes the transaction's message where there were writes and it fits, and answers its length: 0 where it
-// wrote none, and no `Option`, since the rules of a commit fix that answer.
-fn send<K: Kind>(state: &State, buffer: &mut [u8]) -> usize
-    ensures length { result ≡ length (fitting (transaction_bytes K.means (bare state.now)) buffer.old) }
-    ensures bytes { buffer.new
-        ≡ overwritten buffer.old 0 (fitting (transaction_bytes K.means (bare state.now)) buffer.old) }
-{
-    if written_in(&state.transaction).is_empty() {
-        return 0;
+impl<K: Kind, H: History> Table<K, H> {
+    /// Commits the open transaction, and writes its message to the buffer if that has room for it (docs/RULES.md,
+    /// section 9.3). Answers how many actions were committed, and how many bytes were written.
+    pub fn commit(
+        &mut self,
+        ticket: Ticket,
+        buffer: &mut [u8],
+    ) -> Result<(usize, usize), (TableFault, Ticket)>
+        ensures does { Committed K.means self.old ticket buffer.old result self.new buffer.new }
+        ensures sound { Sound K.means self.new }
+        ensures once { OneOutcome (λ answer (after : View × List ℕ).
+            Committed K.means self.old ticket buffer.old answer after.0 after.1) }
+        ensures lawful { 0 < length self.old.pending
+            → LawfulMessage K.means self.old.setup (transaction_message K.means self.old) }
+    {
+        self.store.commit::<K>(ticket, buffer)
     }
-    let size = state.measure::<K>();
-    if size.length > buffer.len() {
-        return 0;
-    }
-    state.put_transaction::<K>(size.sections, buffer);
-    size.length
 }
 
 impl<H: History> Store<H> {
-    // Records the pending actions, and ends the transaction.
-    fn post<K: Kind>(&mut self)
-        requires sound { Sound K.means self.old }
-        requires room { length self.old.history + length self.old.pending ≤ self.old.capacity }
-        ensures { self.new ≡ committed K.means self.old }
-    {
-        let Store { state, history } = self;
-        let pending = written_in(&state.transaction);
-        append(history, pending);
-        state.ledger.raise_posted(pending);
-        state.ledger.work::<K, H>(history, pending);
-        state.clock += pending.len() as u32;
-        state.transaction = None;
-    }
-
-    // Commits the transaction, or hands the ticket back and changes nothing.
     fn commit<K: Kind>(
         &mut self,
         ticket: Ticket,
@@ -70,23 +55,36 @@ impl<H: History> Store<H> {
         self.post::<K>();
         Ok((writes, length))
     }
+
+    // Records the pending actions, and ends the transaction.
+    fn post<K: Kind>(&mut self)
+        requires sound { Sound K.means self.old }
+        requires room { length self.old.history + length self.old.pending ≤ self.old.capacity }
+        ensures { self.new ≡ committed K.means self.old }
+    {
+        let Store { state, history } = self;
+        let pending = written_in(&state.transaction);
+        append(history, pending);
+        state.ledger.raise_posted(pending);
+        state.ledger.work::<K, H>(history, pending);
+        state.clock += pending.len() as u32;
+        state.transaction = None;
+    }
 }
 
-impl<K: Kind, H: History> Table<K, H> {
-    // Commits the open transaction and spends its ticket. Answers how many actions it had, and how
-    // many bytes of a message it wrote.
-    pub fn commit(
-        &mut self,
-        ticket: Ticket,
-        buffer: &mut [u8],
-    ) -> Result<(usize, usize), (TableFault, Ticket)>
-        ensures does { Committed K.means self.old ticket buffer.old result self.new buffer.new }
-        ensures sound { Sound K.means self.new }
-        ensures once { OneOutcome (λ answer (after : View × List ℕ).
-            Committed K.means self.old ticket buffer.old answer after.0 after.1) }
-        ensures lawful { 0 < length self.old.pending
-            → LawfulMessage K.means self.old.setup (transaction_message K.means self.old) }
-    {
-        self.store.commit::<K>(ticket, buffer)
+// Writes the transaction's message, if there were writes and it fits. Answers how many bytes were written.
+fn send<K: Kind>(state: &State, buffer: &mut [u8]) -> usize
+    ensures length { result ≡ length (fitting (transaction_bytes K.means (bare state.now)) buffer.old) }
+    ensures bytes { buffer.new
+        ≡ overwritten buffer.old 0 (fitting (transaction_bytes K.means (bare state.now)) buffer.old) }
+{
+    if written_in(&state.transaction).is_empty() {
+        return 0;
     }
+    let size = state.measure::<K>();
+    if size.length > buffer.len() {
+        return 0;
+    }
+    state.put_transaction::<K>(size.sections, buffer);
+    size.length
 }

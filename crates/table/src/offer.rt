@@ -13,12 +13,27 @@ use crate::state::{State, emit};
 use crate::store::Store;
 use crate::table::Table;
 use crate::table_fault::TableFault;
-use action::Action;
+use action::{ACTION_BYTES, Action};
 use history::{History, actions};
 use kind::Kind;
-use message::{Interval, Record, SectionHead};
+use message::{HEADER_BYTES, INTERVAL_BYTES, Interval, Record, SECTION_BYTES, SectionHead};
 
-// What is asked for: the actions on an article that a peer is not known to have.
+impl<K: Kind, H: History> Table<K, H> {
+    /// Writes for a peer a message of all that it is not known to have on an article (docs/RULES.md, section 10).
+    /// Answers how many bytes were written.
+    pub fn offer(&self, peer: u8, article: u8, buffer: &mut [u8]) -> Result<usize, TableFault>
+        ensures does { Offered K.means self.now peer article buffer.old result buffer.new }
+        ensures sound { Sound K.means self.now }
+        ensures once { OneOutcome (Offered K.means self.now peer article buffer.old) }
+        ensures lawful { article < self.now.setup.articles
+            → LawfulMessage K.means self.now.setup (offer_message K.means self.now peer article) }
+    {
+        let offer = Offer { peer, article };
+        offer.write::<K, H>(&self.store, buffer)
+    }
+}
+
+// An offer of the actions on an article that a peer is not known to have.
 #[derive(Clone, Copy)]
 struct Offer {
     peer: u8,
@@ -26,7 +41,39 @@ struct Offer {
 }
 
 impl Offer {
-    // What the offer says of a site.
+    // Writes the offer, and answers how many bytes it has.
+    fn write<K: Kind, H: History>(
+        self,
+        store: &Store<H>,
+        buffer: &mut [u8],
+    ) -> Result<usize, TableFault>
+        ensures { Offered K.means store.now self.peer self.article buffer.old result buffer.new }
+    {
+        let state = &store.state;
+        state.check_article(self.article)?;
+        state.check_site(self.peer)?;
+        let setup = state.ledger.setup;
+        let carried = self.count(store);
+        let needed = HEADER_BYTES
+            + SECTION_BYTES
+            + INTERVAL_BYTES * usize::from(setup.sites)
+            + ACTION_BYTES * carried;
+        if needed > buffer.len() {
+            return Err(TableFault::Short(needed));
+        }
+        let header = state.header::<K>(1);
+        let head = SectionHead {
+            article: self.article,
+            intervals: setup.sites,
+            actions: carried as u16,
+        };
+        let at = emit(buffer, 0, Record::Header(header));
+        let at = emit(buffer, at, Record::Section(head));
+        let at = self.put_intervals(state, buffer, at);
+        Ok(self.put_actions(store, buffer, at))
+    }
+
+    // What the offer promises of a site.
     fn interval(self, state: &State, site: u8) -> Interval
         ensures { result ≡ offer_interval (bare state.now) self.peer self.article site }
     {
@@ -67,14 +114,13 @@ impl Offer {
             (flat_map interval_bytes (offer_intervals (bare state.now) self.peer self.article)) }
     {
         let mut at = start;
-        for q in 0..state.ledger.setup.sites {
-            at = emit(buffer, at, Record::Interval(self.interval(state, q)));
+        for site in 0..state.ledger.setup.sites {
+            at = emit(buffer, at, Record::Interval(self.interval(state, site)));
         }
         at
     }
 
-    // Puts the actions that the offer carries. It is not one function with `put_on`: over any iterator, that
-    // would have to say in its contract what each run of the iterator may yield.
+    // Puts the actions that the offer carries.
     fn put_actions<H: History>(self, store: &Store<H>, buffer: &mut [u8], start: usize) -> usize
         requires { start + 16 * length (offer_actions store.now self.peer self.article) ≤ length buffer.old }
         ensures end { result ≡ start + 16 * length (offer_actions store.now self.peer self.article) }
@@ -88,49 +134,5 @@ impl Offer {
             }
         }
         at
-    }
-
-    // Writes the offer, and answers its length.
-    fn write<K: Kind, H: History>(
-        self,
-        store: &Store<H>,
-        buffer: &mut [u8],
-    ) -> Result<usize, TableFault>
-        ensures { Offered K.means store.now self.peer self.article buffer.old result buffer.new }
-    {
-        let state = &store.state;
-        state.check_article(self.article)?;
-        state.check_site(self.peer)?;
-        let setup = state.ledger.setup;
-        let carried = self.count(store);
-        let needed = 11 + 10 * usize::from(setup.sites) + 16 * carried;
-        if needed > buffer.len() {
-            return Err(TableFault::Short(needed));
-        }
-        let header = state.header::<K>(1);
-        let head = SectionHead {
-            article: self.article,
-            intervals: setup.sites,
-            actions: carried as u16,
-        };
-        let at = emit(buffer, 0, Record::Header(header));
-        let at = emit(buffer, at, Record::Section(head));
-        let at = self.put_intervals(state, buffer, at);
-        Ok(self.put_actions(store, buffer, at))
-    }
-}
-
-impl<K: Kind, H: History> Table<K, H> {
-    // Writes, for a peer and an article, all that the peer is not known to have: an interval for
-    // each site and the history's actions in them. Answers the length.
-    pub fn offer(&self, peer: u8, article: u8, buffer: &mut [u8]) -> Result<usize, TableFault>
-        ensures does { Offered K.means self.now peer article buffer.old result buffer.new }
-        ensures sound { Sound K.means self.now }
-        ensures once { OneOutcome (Offered K.means self.now peer article buffer.old) }
-        ensures lawful { article < self.now.setup.articles
-            → LawfulMessage K.means self.now.setup (offer_message K.means self.now peer article) }
-    {
-        let offer = Offer { peer, article };
-        offer.write::<K, H>(&self.store, buffer)
     }
 }

@@ -1,4 +1,3 @@
-// What several calls check first.
 ghost use Rattle.std.specs.Prelude.{◌≡◌, ◌≤◌, length, ◌+◌, not, nat_lt};
 ghost use Rattle.std.specs.Option.{is_some};
 ghost use Rattle.message.specs.declared.record.Header.{Header as AHeader};
@@ -20,31 +19,20 @@ use row::Ledger;
 /// The most writes that a transaction may have.
 pub const MOST_WRITES: usize = 16;
 
-// What an open transaction has written so far.
+// The pending actions of an open transaction.
 pub(crate) type Pending = ArrayVec<Action, MOST_WRITES>;
 
-// What a table keeps besides its history.
+/// What a table keeps besides its history.
 #[derive(Drop)]
 pub struct State {
     pub ledger: Ledger,
     pub clock: u32,
+    /// The pending actions of the open transaction; `None` where none is open.
     pub transaction: Option<Pending>,
 }
 
-// What the transaction has written, nothing where none is open. Of that field alone, since a commit changes
-// the ledger beside it.
-pub(crate) fn written_in(transaction: &Option<Pending>) -> &[Action]
-    ensures value { result.now ≡ written_in transaction.now }
-    ensures few { length result.now ≤ 16 }
-{
-    match transaction {
-        Some(pending) => pending.as_slice(),
-        None => &[],
-    }
-}
-
 impl State {
-    // Does the ticket fit: is a transaction open, and are its four numbers the table's?
+    // Does the ticket fit (docs/RULES.md, section 9.1)?
     pub(crate) fn holds<K: Kind>(&self, ticket: &Ticket) -> bool
         ensures { result ≡ holds K.means (bare self.now) ticket.now }
     {
@@ -55,7 +43,7 @@ impl State {
             && ticket.clock == self.clock
     }
 
-    // The header of a message of this site's.
+    // The header of a message that this site sends.
     pub(crate) fn header<K: Kind>(&self, sections: u8) -> Header
         ensures { let setup = self.now.ledger.setup in
             ◌≡◌ {A = AHeader} result (record {
@@ -74,7 +62,7 @@ impl State {
         }
     }
 
-    // No transaction is open.
+    // Refuses where a transaction is open.
     pub(crate) fn check_closed(&self) -> Result<(), TableFault>
         ensures { Passes (not (is_some self.now.transaction)) TableFault.AlreadyOpen result }
     {
@@ -84,7 +72,7 @@ impl State {
         Ok(())
     }
 
-    // The article is one of the group's.
+    // Refuses an article that is none of the group's.
     pub(crate) fn check_article(&self, article: u8) -> Result<(), TableFault>
         ensures { Passes (nat_lt article self.now.ledger.setup.articles) TableFault.NoArticle result }
     {
@@ -94,7 +82,7 @@ impl State {
         Ok(())
     }
 
-    // The site is one of the group's.
+    // Refuses a site that is none of the group's.
     pub(crate) fn check_site(&self, site: u8) -> Result<(), TableFault>
         ensures { Passes (nat_lt site self.now.ledger.setup.sites) TableFault.NoSite result }
     {
@@ -105,8 +93,18 @@ impl State {
     }
 }
 
-// Puts a record that is known to fit, and answers the place after it. The place is no field beside the
-// buffer: a struct that borrows the buffer has to say in each contract what it leaves of it.
+// The pending actions, none where no transaction is open.
+pub(crate) fn written_in(transaction: &Option<Pending>) -> &[Action]
+    ensures value { result.now ≡ written_in transaction.now }
+    ensures few { length result.now ≤ 16 }
+{
+    match transaction {
+        Some(pending) => pending.as_slice(),
+        None => &[],
+    }
+}
+
+// Writes a record that fits at an offset of the buffer, and answers the offset after it.
 pub(crate) fn emit(buffer: &mut [u8], at: usize, record: Record) -> usize
     requires { at + length (record_bytes «record») ≤ length buffer.old }
     ensures end { result ≡ at + length (record_bytes «record») }

@@ -1,4 +1,3 @@
-// What several calls check first.
 ghost use Rattle.std.specs.Prelude.{◌+◌, length, nat_le};
 ghost use Rattle.table.specs.Faults.{Passes};
 
@@ -6,8 +5,8 @@ use crate::state::State;
 use history::{History, HistoryFault};
 use std::marker::Model;
 
-// A table's state and its history. Contracts see both as one, what the table holds, which need not be
-// sound while a call is at work on it.
+/// A table's state and its history, which contracts see as one `View`.
+/// What holds of every table (`Sound`) need not hold of a store while a call is at work on it.
 #[derive(Drop)]
 pub struct Store<H: History> {
     pub(crate) state: State,
@@ -23,7 +22,7 @@ impl<H: History> Model for Store<H> {
 }
 
 impl<H: History> Store<H> {
-    // The history has room for so many more.
+    // Refuses where the history has no room for so many more.
     pub(crate) fn check_room(&self, more: usize) -> Result<(), HistoryFault>
         ensures { Passes (nat_le (length self.now.history + more) self.now.capacity)
             (HistoryFault.Full self.now.capacity) result }

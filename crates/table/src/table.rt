@@ -12,8 +12,8 @@ use kind::Kind;
 use row::Ledger;
 use std::marker::{Model, PhantomData};
 
-// One site's copy of its group's articles, for any kind of figure and any history. Contracts speak of
-// what it holds, and every table is sound: its calls are those of its store, and keep that.
+/// What one site keeps of all its group's articles, for any kind of figure and any history.
+/// What holds of every table is in docs/RULES.md, section 8.
 #[derive(Drop)]
 pub struct Table<K: Kind, H: History> {
     pub(crate) store: Store<H>,
@@ -31,18 +31,8 @@ impl<K: Kind, H: History> Model for Table<K, H> {
     ghost invariant = { λ t. Sound K.means t.store };
 }
 
-// Takes every action out, the last one first.
-fn empty<H: History>(history: &mut H)
-    ensures items { H.items history.new ≡ [] }
-    ensures room { H.room history.new ≡ H.room history.old }
-{
-    for last in (0..history.count()).rev() {
-        let _ = history.remove(last);
-    }
-}
-
 impl<K: Kind, H: History> Table<K, H> {
-    // A new table over a history, which is emptied first. It is never refused.
+    /// A new table. Actions that are in the history are removed from it first.
     pub fn new(setup: Setup, mut history: H) -> Table<K, H>
         ensures does { result ≡ fresh K.means setup (H.room history) }
         ensures sound { Sound K.means result }
@@ -61,13 +51,14 @@ impl<K: Kind, H: History> Table<K, H> {
         }
     }
 
+    /// The greatest time that the table has met so far, 0 in a new table.
     pub fn clock(&self) -> u32
         ensures { result ≡ self.now.clock }
     {
         self.store.state.clock
     }
 
-    // The figure that an article has here.
+    /// The figure of an article, with all actions on it that the table has. Pending actions do not count.
     pub fn figure(&self, article: u8) -> Result<i64, TableFault>
         ensures { Answers (figure_refusal self.now article) (figure self.now article) result }
     {
@@ -76,19 +67,20 @@ impl<K: Kind, H: History> Table<K, H> {
         Ok(state.ledger.rows[usize::from(article)].kept)
     }
 
-    // Up to what time site `z` is known to have the actions of site `q` on an article. The own
-    // site's entries are the reception vector.
-    pub fn known(&self, article: u8, z: u8, q: u8) -> Result<u32, TableFault>
-        ensures { Answers (known_refusal self.now article z q) (entry self.now article z q) result }
+    /// The known entry: up to what time the knower is known to have the coordinator's actions on an article
+    /// (docs/RULES.md, section 1).
+    pub fn known(&self, article: u8, knower: u8, coordinator: u8) -> Result<u32, TableFault>
+        ensures { Answers (known_refusal self.now article knower coordinator)
+            (entry self.now article knower coordinator) result }
     {
         let state = &self.store.state;
         state.check_article(article)?;
-        state.check_site(z)?;
-        state.check_site(q)?;
-        Ok(state.ledger.entry(article, z, q))
+        state.check_site(knower)?;
+        state.check_site(coordinator)?;
+        Ok(state.ledger.entry(article, knower, coordinator))
     }
 
-    // Is site `peer` not known to have all of this site's own actions on the article?
+    /// Whether this site has committed an action on the article that the peer is not known to have.
     pub fn open_item(&self, article: u8, peer: u8) -> Result<bool, TableFault>
         ensures { Answers (open_item_refusal self.now article peer) (open_item self.now article peer) result }
     {
@@ -96,5 +88,15 @@ impl<K: Kind, H: History> Table<K, H> {
         let theirs = self.known(article, peer, own)?;
         let ours = self.known(article, own, own)?;
         Ok(theirs < ours)
+    }
+}
+
+// Takes every action out of the history, the last one first.
+fn empty<H: History>(history: &mut H)
+    ensures items { H.items history.new ≡ [] }
+    ensures room { H.room history.new ≡ H.room history.old }
+{
+    for last in (0..history.count()).rev() {
+        let _ = history.remove(last);
     }
 }

@@ -5,24 +5,35 @@ ghost use Rattle.table.specs.declared.table_fault.TableFault.TheVariants.{InHist
 use action::Refusal;
 use history::HistoryFault;
 use message::ReaderFault;
+use std::error::Error;
+use std::fmt;
 
-// Why a table refused. A fault of the reader or of its history is carried whole.
+/// Why a table refused a call. docs/REFUSALS.md has what each call checks, and in which order.
 #[derive(Clone, Copy, Debug, PartialEq, Eq)]
 pub enum TableFault {
+    /// Refusal 2: a transaction is open.
     AlreadyOpen,
+    /// Refusal 3: no open transaction fits the ticket.
     NotItsTicket,
+    /// Refusal 4: there is no such article.
     NoArticle,
+    /// Refusal 5: there is no such site.
     NoSite,
+    /// Refusal 6: the kind does not know the operation with this amount.
     UnknownPair,
+    /// Refusal 7: the transaction has as many writes as it may have.
     TooManyWrites,
+    /// Refusal 8: the action would be later than any may be.
     TooLate,
-    // Where the first interval stands that begins above what the table has.
+    /// Refusal 13, at the offset of the first interval that begins above what the table has.
     Behind(usize),
-    // Where the first interval stands that says more of the own site than it has done.
+    /// Refusal 14, at the offset of the first interval that goes beyond the own site's actions.
     Ahead(usize),
-    // How many bytes are needed.
+    /// Refusal 15, with how many bytes the offer has: more than the buffer.
     Short(usize),
+    /// Refusals 9 to 12: the bytes are no message for this table.
     InReader(ReaderFault),
+    /// Refusal 16: the history has no room.
     InHistory(HistoryFault),
 }
 
@@ -62,3 +73,17 @@ impl From<TableFault> for Refusal {
         }
     }
 }
+
+impl fmt::Display for TableFault {
+    ghost use Rattle.std.specs.Prelude.{Some};
+    ghost use Rattle.action.specs.Words.{refusal_words};
+
+    ghost output = { λ e. Some (refusal_words (shown e)) };
+
+    fn fmt<W: fmt::Write>(&self, f: &mut fmt::Formatter<W>) -> fmt::Result {
+        let refusal = Refusal::from(*self);
+        write!(f, "{refusal}")
+    }
+}
+
+impl Error for TableFault {}

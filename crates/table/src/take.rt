@@ -1,4 +1,3 @@
-// Taking a message whole: every check first, then everything it carries.
 ghost use Rattle.std.specs.Prelude.{◌≡◌, ◌+◌, ◌≤◌, length};
 ghost use Rattle.message.specs.Format.{Message, records};
 ghost use Rattle.message.specs.Walks.{records_in};
@@ -14,25 +13,19 @@ use history::History;
 use kind::Kind;
 use message::check;
 
-impl<H: History> Store<H> {
-    // Records what a message carries, of which so many actions are new. What is new is judged by the entries
-    // before they are raised. Where nothing is, the figures are what they were.
-    fn absorb<K: Kind>(&mut self, bytes: &[u8], new: usize)
-        requires sound { Sound K.means self.old }
-        requires counted { new ≡ length (new_actions self.old.rows self.old.setup.own bytes.now) }
-        requires room { length self.old.history + new ≤ self.old.capacity }
-        ensures { (m : Message) → records_in bytes.now ≡ records m → self.new ≡ taken K.means self.old m }
+impl<K: Kind, H: History> Table<K, H> {
+    /// Takes a message whole, or refuses it and changes nothing (docs/RULES.md, section 12).
+    /// Answers how many of its actions were new.
+    pub fn take(&mut self, bytes: &[u8]) -> Result<usize, TableFault>
+        ensures does { Took K.means self.old bytes.now result self.new }
+        ensures sound { Sound K.means self.new }
+        ensures once { OneOutcome (Took K.means self.old bytes.now) }
     {
-        let Store { state, history } = self;
-        if new == 0 {
-            state.clock = state.ledger.raise_all(bytes, state.clock);
-            return;
-        }
-        state.ledger.insert_new(history, bytes);
-        state.clock = state.ledger.record::<K, H>(history, bytes, state.clock);
+        self.store.take::<K>(bytes)
     }
+}
 
-    // Takes a message whole, or refuses it and changes nothing.
+impl<H: History> Store<H> {
     fn take<K: Kind>(&mut self, bytes: &[u8]) -> Result<usize, TableFault>
         requires { Sound K.means self.old }
         ensures { Took K.means self.old bytes.now result self.new }
@@ -50,15 +43,21 @@ impl<H: History> Store<H> {
         self.absorb::<K>(bytes, new);
         Ok(new)
     }
-}
 
-impl<K: Kind, H: History> Table<K, H> {
-    // Takes a message whole, or refuses it and changes nothing. Answers how many of its actions were new.
-    pub fn take(&mut self, bytes: &[u8]) -> Result<usize, TableFault>
-        ensures does { Took K.means self.old bytes.now result self.new }
-        ensures sound { Sound K.means self.new }
-        ensures once { OneOutcome (Took K.means self.old bytes.now) }
+    // Records what a message carries, of which so many actions are new. These go into the history before the known
+    // entries are raised, since what is new is judged by the entries as they were. If none is new, the figures stay.
+    fn absorb<K: Kind>(&mut self, bytes: &[u8], new: usize)
+        requires sound { Sound K.means self.old }
+        requires counted { new ≡ length (new_actions self.old.rows self.old.setup.own bytes.now) }
+        requires room { length self.old.history + new ≤ self.old.capacity }
+        ensures { (m : Message) → records_in bytes.now ≡ records m → self.new ≡ taken K.means self.old m }
     {
-        self.store.take::<K>(bytes)
+        let Store { state, history } = self;
+        if new == 0 {
+            state.clock = state.ledger.raise_all(bytes, state.clock);
+            return;
+        }
+        state.ledger.insert_new(history, bytes);
+        state.clock = state.ledger.record::<K, H>(history, bytes, state.clock);
     }
 }

@@ -1,4 +1,3 @@
-// A transaction up to its commit: opening it, writing to it, and dropping it.
 ghost use Rattle.table.specs.Sound.{Sound};
 ghost use Rattle.table.specs.Transactions.{Abandoned, Opened, Wrote};
 
@@ -11,8 +10,40 @@ use action::{Action, LATEST_TIME};
 use history::History;
 use kind::Kind;
 
+impl<K: Kind, H: History> Table<K, H> {
+    /// Opens a transaction and answers its ticket. A table has one open transaction at most.
+    pub fn open(&mut self) -> Result<Ticket, TableFault>
+        ensures does { Opened K.means self.old result self.new }
+        ensures sound { Sound K.means self.new }
+    {
+        self.store.open::<K>()
+    }
+
+    /// Adds a pending action, and answers the time that it will have (docs/RULES.md, section 9.2).
+    /// A refusal leaves the transaction open.
+    pub fn write(
+        &mut self,
+        ticket: &Ticket,
+        article: u8,
+        operation: u8,
+        amount: i32,
+    ) -> Result<u32, TableFault>
+        ensures does { Wrote K.means self.old ticket.now article operation amount result self.new }
+        ensures sound { Sound K.means self.new }
+    {
+        self.store.write::<K>(ticket, article, operation, amount)
+    }
+
+    /// Drops the pending actions and closes the transaction. The clock stays.
+    pub fn abandon(&mut self, ticket: Ticket) -> Result<(), (TableFault, Ticket)>
+        ensures does { Abandoned K.means self.old ticket result self.new }
+        ensures sound { Sound K.means self.new }
+    {
+        self.store.abandon::<K>(ticket)
+    }
+}
+
 impl<H: History> Store<H> {
-    // Opens a transaction.
     fn open<K: Kind>(&mut self) -> Result<Ticket, TableFault>
         ensures { Opened K.means self.old result self.new }
     {
@@ -27,7 +58,6 @@ impl<H: History> Store<H> {
         })
     }
 
-    // Adds a pending action.
     fn write<K: Kind>(
         &mut self,
         ticket: &Ticket,
@@ -69,7 +99,6 @@ impl<H: History> Store<H> {
         Ok(time)
     }
 
-    // Drops the pending actions and spends the ticket.
     fn abandon<K: Kind>(&mut self, ticket: Ticket) -> Result<(), (TableFault, Ticket)>
         ensures { Abandoned K.means self.old ticket result self.new }
     {
@@ -79,37 +108,5 @@ impl<H: History> Store<H> {
         ticket.spend();
         self.state.transaction = None;
         Ok(())
-    }
-}
-
-impl<K: Kind, H: History> Table<K, H> {
-    // Opens a transaction and hands out its ticket.
-    pub fn open(&mut self) -> Result<Ticket, TableFault>
-        ensures does { Opened K.means self.old result self.new }
-        ensures sound { Sound K.means self.new }
-    {
-        self.store.open::<K>()
-    }
-
-    // Adds a pending action, and answers the time that it will have.
-    pub fn write(
-        &mut self,
-        ticket: &Ticket,
-        article: u8,
-        operation: u8,
-        amount: i32,
-    ) -> Result<u32, TableFault>
-        ensures does { Wrote K.means self.old ticket.now article operation amount result self.new }
-        ensures sound { Sound K.means self.new }
-    {
-        self.store.write::<K>(ticket, article, operation, amount)
-    }
-
-    // Drops the pending actions and spends the ticket; the clock stays.
-    pub fn abandon(&mut self, ticket: Ticket) -> Result<(), (TableFault, Ticket)>
-        ensures does { Abandoned K.means self.old ticket result self.new }
-        ensures sound { Sound K.means self.new }
-    {
-        self.store.abandon::<K>(ticket)
     }
 }

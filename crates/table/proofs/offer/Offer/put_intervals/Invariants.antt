@@ -6,6 +6,6 @@ use Rattle.table.specs.Offers.{offer_interval}
 use Rattle.table.specs.View.{bare}
 use Rattle.table.proofs.offer.Offer.put_intervals.Given as goal
 
-abbrev pub invariant-loop-q : goal.invariant-loop-q
-invariant-loop-q l =
-    (l.at ≡ l.start + 10 * l.q) × (l.buffer ≡ overwritten l.initial.buffer l.start (flat_map interval_bytes (map (offer_interval (bare l.state) l.self.peer l.self.article) (range_with_len 0 l.q))))
+abbrev pub invariant-loop-site : goal.invariant-loop-site
+invariant-loop-site l =
+    (l.at ≡ l.start + 10 * l.site) × (l.buffer ≡ overwritten l.initial.buffer l.start (flat_map interval_bytes (map (offer_interval (bare l.state) l.self.peer l.self.article) (range_with_len 0 l.site))))
