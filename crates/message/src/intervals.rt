@@ -1,11 +1,11 @@
 ghost use Rattle.std.specs.Prelude.{◌≡◌, ◌≤◌, List, length, map};
 ghost use Rattle.std.specs.Iterator.{YieldsFirst, item_count};
 ghost use Rattle.std.specs.Iterator.Runs.{YieldsInOrder};
-ghost use Rattle.message.specs.declared.intervals.FoundInterval.{FoundInterval};
 ghost use Rattle.message.specs.Format.{Message, records, told_intervals};
 ghost use Rattle.message.specs.Found.{placed, found_intervals_among, found_intervals_in, told};
 ghost use Rattle.message.specs.ReadBack.{IsMessage};
 ghost use Rattle.message.specs.Walks.{intervals_of, records_in};
+ghost use Rattle.message.specs.declared.intervals.FoundInterval.{FoundInterval};
 
 use crate::record::Interval;
 use crate::records::Records;

@@ -5,8 +5,8 @@ ghost use Rattle.message.specs.Decoding.{size_of};
 ghost use Rattle.message.specs.Format.{Message, records};
 ghost use Rattle.message.specs.ReadBack.{IsMessage};
 ghost use Rattle.message.specs.Walks.{its_sender, record_in};
-ghost use Rattle.message.specs.declared.records.FoundRecord.{FoundRecord};
 ghost use Rattle.message.specs.Found.{found_from, found_in, placed};
+ghost use Rattle.message.specs.declared.records.FoundRecord.{FoundRecord};
 
 use crate::due::{Due, decode};
 use crate::record::Record;

@@ -1,4 +1,4 @@
-ghost use Rattle.std.specs.Prelude.{◌≡◌, length, replicate, fold, map, if◌then◌else◌, ◌+◌, ◌≤◌};
+ghost use Rattle.std.specs.Prelude.{◌≡◌, if◌then◌else◌, ◌+◌, ◌≤◌, length, replicate, fold, map};
 ghost use Rattle.std.specs.List.{range_with_len};
 ghost use Rattle.std.specs.Fn.{FnOnceReturnsAtMut};
 ghost use Rattle.action.specs.Order.{placed};
@@ -6,9 +6,9 @@ ghost use Rattle.message.specs.Found.{first_place, told};
 ghost use Rattle.message.specs.Walks.{records_in, intervals_of};
 ghost use Rattle.row.specs.Entries.{start_row, entry_in};
 ghost use Rattle.row.specs.Passes.{is_new_in, least_in, least_of_in, is_ahead_in, is_behind_in, latest_to, new_actions};
-ghost use Rattle.row.specs.declared.row.Row.{Row as ARow};
 ghost use Rattle.row.specs.Rows.{changed_row, on_row, posted_rows, restarted, reworked_rows, stepped_row, stepped_rows, raised_by_message, raised_rows};
 ghost use Rattle.row.specs.Sorting.{Sorted};
+ghost use Rattle.row.specs.declared.row.Row.{Row as ARow};
 
 use crate::place::insert_in_order;
 use crate::row::Row;

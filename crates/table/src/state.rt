@@ -1,8 +1,8 @@
-ghost use Rattle.std.specs.Prelude.{◌≡◌, ◌≤◌, length, ◌+◌, not, nat_lt};
+ghost use Rattle.std.specs.Prelude.{◌≡◌, ◌≤◌, ◌+◌, length, not, nat_lt};
 ghost use Rattle.std.specs.Option.{is_some};
-ghost use Rattle.message.specs.declared.record.Header.{Header as AHeader};
 ghost use Rattle.message.specs.Buffer.{overwritten};
 ghost use Rattle.message.specs.Format.{record_bytes};
+ghost use Rattle.message.specs.declared.record.Header.{Header as AHeader};
 ghost use Rattle.table.specs.Transactions.{holds};
 ghost use Rattle.table.specs.View.{bare, written_in};
 ghost use Rattle.table.specs.Faults.{Passes};
