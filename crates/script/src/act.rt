@@ -7,72 +7,15 @@ ghost use Rattle.script.specs.Lines.{Placed};
 use crate::answer::Answer;
 use crate::command::Command;
 use crate::line_fault::LineFault;
-use crate::slot::{SLOT_BYTES, Slot};
+use crate::slot::{SLOT_BYTES, SLOTS, Slot};
 use history::History;
 use kind::OnHand;
 use table::Table;
 
-// A transaction of one write, whose message goes into the slot. Like `post` of `two_sites`: the rules fix a
-// table's calls, no crate stands between `table` and these two, and `two_sites` is read by itself.
-pub(crate) fn move_stock<H: History>(
-    table: &mut Table<OnHand, H>,
-    article: u8,
-    amount: i32,
-    slot: &mut Slot,
-) -> Result<Answer, LineFault>
-    ensures { MovedSlot table.old article amount slot.old result table.new slot.new }
-{
-    let ticket = table.open()?;
-    let mut buffer = [0; SLOT_BYTES];
-    // What is refused hands the ticket back.
-    let posted = match table.write(&ticket, article, OnHand::ADD, amount) {
-        Ok(time) => table
-            .commit(ticket, &mut buffer)
-            .map(|(_, length)| (time, length)),
-        Err(fault) => Err((fault, ticket)),
-    };
-    match posted {
-        Ok((time, length)) => {
-            slot.keep(&buffer[..length]);
-            Ok(Answer::Time(time))
-        }
-        // A ticket cannot be let go. It is the table's own, so abandoning is proved not to be refused.
-        Err((fault, ticket)) => {
-            table.abandon(ticket).unwrap();
-            Err(fault.into())
-        }
-    }
-}
-
-// Offers the article to the peer, into the slot.
-pub(crate) fn offer_article<H: History>(
-    table: &Table<OnHand, H>,
-    peer: u8,
-    article: u8,
-    slot: &mut Slot,
-) -> Result<Answer, LineFault>
-    ensures { OfferedSlot table.now peer article slot.old result slot.new }
-{
-    let mut buffer = [0; SLOT_BYTES];
-    let length = table.offer(peer, article, &mut buffer)?;
-    slot.keep(&buffer[..length]);
-    Ok(Answer::Length(length))
-}
-
-// Takes the message in the slot, and answers how many of its actions were new. The slot keeps its message.
-pub(crate) fn take_slot<H: History>(
-    table: &mut Table<OnHand, H>,
-    slot: &Slot,
-) -> Result<Answer, LineFault>
-    ensures { TookSlot table.old slot.now (reply_of result) table.new }
-{
-    Ok(Answer::Taken(table.take(slot.message())?))
-}
-
 // Does what the command asks, at the table of its site.
 pub(crate) fn act_at<H: History>(
     table: &mut Table<OnHand, H>,
-    slots: &mut [Slot; 10],
+    slots: &mut [Slot; SLOTS],
     command: Command,
 ) -> Result<Answer, LineFault>
     requires { Placed command }
@@ -97,4 +40,57 @@ pub(crate) fn act_at<H: History>(
             Ok(Answer::IsOpen(table.open_item(article, peer)?))
         }
     }
+}
+
+// Commits a transaction of one write, whose message goes into the slot.
+fn move_stock<H: History>(
+    table: &mut Table<OnHand, H>,
+    article: u8,
+    amount: i32,
+    slot: &mut Slot,
+) -> Result<Answer, LineFault>
+    ensures { MovedSlot table.old article amount slot.old result table.new slot.new }
+{
+    let ticket = table.open()?;
+    let mut buffer = [0; SLOT_BYTES];
+    // Where the write or the commit is refused, the ticket is left over.
+    let posted = match table.write(&ticket, article, OnHand::ADD, amount) {
+        Ok(time) => table
+            .commit(ticket, &mut buffer)
+            .map(|(_, length)| (time, length)),
+        Err(fault) => Err((fault, ticket)),
+    };
+    match posted {
+        Ok((time, length)) => {
+            slot.keep(&buffer[..length]);
+            Ok(Answer::Time(time))
+        }
+        // A ticket has to be spent. This one is the table's own, so the abandon is not refused.
+        Err((fault, ticket)) => {
+            table.abandon(ticket).unwrap();
+            Err(fault.into())
+        }
+    }
+}
+
+// Offers the article to the peer, into the slot.
+fn offer_article<H: History>(
+    table: &Table<OnHand, H>,
+    peer: u8,
+    article: u8,
+    slot: &mut Slot,
+) -> Result<Answer, LineFault>
+    ensures { OfferedSlot table.now peer article slot.old result slot.new }
+{
+    let mut buffer = [0; SLOT_BYTES];
+    let length = table.offer(peer, article, &mut buffer)?;
+    slot.keep(&buffer[..length]);
+    Ok(Answer::Length(length))
+}
+
+// Takes the message in the slot, which keeps it.
+fn take_slot<H: History>(table: &mut Table<OnHand, H>, slot: &Slot) -> Result<Answer, LineFault>
+    ensures { TookSlot table.old slot.now (reply_of result) table.new }
+{
+    Ok(Answer::Taken(table.take(slot.message())?))
 }

@@ -6,17 +6,18 @@ use crate::line_fault::LineFault;
 use crate::sheet_line::SheetLine;
 use action::Refusal;
 
-// What a command answers where it is not refused.
+/// What a command answers where it is not refused (docs/TALLY.md, section 5).
 #[derive(Clone, Copy, Debug, PartialEq, Eq)]
 pub enum Answer {
-    // The time of a write.
+    /// Of `M`: the time of the write.
     Time(u32),
-    // How long an offer is.
+    /// Of `O`: how many bytes the offer has.
     Length(usize),
-    // How many actions of a message were new.
+    /// Of `T`: how many actions of the message were new.
     Taken(usize),
+    /// Of `F`: the figure.
     Figure(i64),
-    // Is there an open item?
+    /// Of `P`: whether there is an open item.
     IsOpen(bool),
 }
 

@@ -3,13 +3,16 @@ ghost use Rattle.script.specs.Faults.{shown};
 ghost use Rattle.script.specs.declared.line_fault.LineFault.TheVariants.{Table as Carried};
 
 use action::Refusal;
+use std::error::Error;
+use std::fmt;
 use table::TableFault;
 
-// Why a line was refused: it has no known form, or the table of its site refused.
+/// Why a line of a script was refused.
 #[derive(Clone, Copy, Debug, PartialEq, Eq)]
 pub enum LineFault {
-    // The line's number, the first being 0.
+    /// Refusal 18, at the line's number, the first line being 0.
     NoKnownForm(usize),
+    /// A refusal by the table of the acting site.
     Table(TableFault),
 }
 
@@ -31,3 +34,17 @@ impl From<LineFault> for Refusal {
         }
     }
 }
+
+impl fmt::Display for LineFault {
+    ghost use Rattle.std.specs.Prelude.{Some};
+    ghost use Rattle.action.specs.Words.{refusal_words};
+
+    ghost output = { λ e. Some (refusal_words (shown e)) };
+
+    fn fmt<W: fmt::Write>(&self, f: &mut fmt::Formatter<W>) -> fmt::Result {
+        let refusal = Refusal::from(*self);
+        write!(f, "{refusal}")
+    }
+}
+
+impl Error for LineFault {}

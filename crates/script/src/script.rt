@@ -6,25 +6,24 @@ ghost use Rattle.script.specs.Standing.{ScriptStands};
 use crate::desk::Desk;
 use std::alloc::AllocError;
 
-// The most that is read of a script.
+/// How many bytes of a script count. Those after them are not looked at (docs/TALLY.md, section 1).
 pub const LONGEST_SCRIPT: usize = 32_768;
 
-// Does the byte end a line?
-fn ends_line(byte: u8) -> bool
-    ensures { result ≡ (byte == 10) }
-{
-    byte == b'\n'
-}
+/// Runs the lines of a script on the desk, and appends to `out` what is printed for them.
+/// It fails only where that is above the capacity of `out` and there is no memory for more.
+pub fn run_script(desk: &mut Desk, input: &[u8], out: &mut Vec<u8>) -> Result<(), AllocError>
+    ensures does { Scripted desk.old input.now out.old.items (vec_capacity out.old) result desk.new out.new.items }
 
-// The first line, without the byte that ends it, and what comes after that byte.
-fn split_line(text: &[u8]) -> (&[u8], &[u8])
-    requires { 0 < length text.now }
-    ensures lines { lines text.now ≡ result.0.now ∷ lines result.1.now }
+    // Where the desk stood at the end of a run, it now stands at the end of that run and the calls made here.
+    // Each figure that is printed is what the run counts.
+    ensures stands { ScriptStands desk.old input.now out.old.items (vec_capacity out.old) result desk.new out.new.items }
 {
-    match text.iter().position(|byte| ends_line(*byte)) {
-        Some(end) => (&text[..end], &text[end + 1..]),
-        None => (text, &[]),
+    let text = &input[..input.len().min(LONGEST_SCRIPT)];
+    for (index, line) in (Lines { text }).enumerate() {
+        let (_, sheet) = desk.run(index, line);
+        out.extend_from_slice(sheet.as_slice())?;
     }
+    Ok(())
 }
 
 // The lines of what is left of a text.
@@ -50,17 +49,20 @@ impl<'a> Iterator for Lines<'a> {
     }
 }
 
-// Runs the lines of a script on the desk and appends what they print. A desk at the end of a run is at the end
-// of that run and the calls made here then, and each figure printed is what the run counts. It fails only where
-// the capacity of `out` is below what is to be printed and there is no memory for more.
-pub fn run_script(desk: &mut Desk, input: &[u8], out: &mut Vec<u8>) -> Result<(), AllocError>
-    ensures does { Scripted desk.old input.now out.old.items (vec_capacity out.old) result desk.new out.new.items }
-    ensures stands { ScriptStands desk.old input.now out.old.items (vec_capacity out.old) result desk.new out.new.items }
+// The first line, without the byte that ends it, and what comes after that byte.
+fn split_line(text: &[u8]) -> (&[u8], &[u8])
+    requires { 0 < length text.now }
+    ensures lines { lines text.now ≡ result.0.now ∷ lines result.1.now }
 {
-    let text = &input[..input.len().min(LONGEST_SCRIPT)];
-    for (index, line) in (Lines { text }).enumerate() {
-        let (_, sheet) = desk.run(index, line);
-        out.extend_from_slice(sheet.as_slice())?;
+    match text.iter().position(|byte| ends_line(*byte)) {
+        Some(end) => (&text[..end], &text[end + 1..]),
+        None => (text, &[]),
     }
-    Ok(())
+}
+
+// Whether the byte ends a line.
+fn ends_line(byte: u8) -> bool
+    ensures { result ≡ (byte == 10) }
+{
+    byte == b'\n'
 }

@@ -3,16 +3,19 @@ ghost use Rattle.std.specs.Prelude.{◌≡◌, ◌<◌, ◌≤◌, [], ◌∷◌
 use arrayvec::ArrayVec;
 use itoa::{Buffer, Integer};
 
-// A line of what is printed, with room for the longest answer. It needs no memory from outside.
+// Room for a letter, words of up to 9 bytes, a number of up to 20 and the byte that ends the line.
+const LINE_BYTES: usize = 32;
+
+/// What is printed for one line of a script (docs/TALLY.md, section 4).
 #[derive(Clone, Drop)]
 pub struct SheetLine {
-    text: ArrayVec<u8, 32>,
+    text: ArrayVec<u8, LINE_BYTES>,
 }
 
 impl SheetLine {
     ghost use Rattle.script.specs.Sheets.{sheet_bytes};
 
-    // A letter, some words and a number.
+    // The letter, the words, the number and the byte that ends the line.
     pub(crate) fn new<I: Integer>(letter: char, words: &[u8], number: I) -> SheetLine
         requires ascii { letter < 128 }
         requires few_words { length words.now ≤ 9 }
@@ -28,7 +31,7 @@ impl SheetLine {
         SheetLine { text }
     }
 
-    // What is printed.
+    /// The bytes to print, with byte 10 as the last.
     pub fn as_slice(&self) -> &[u8]
         ensures { result.now ≡ sheet_bytes self.now }
     {

@@ -3,10 +3,13 @@ ghost use Rattle.std.specs.Prelude.{◌≡◌, ℕ, ◌≤◌, List, length};
 use arrayvec::ArrayVec;
 use std::marker::Model;
 
-// The most bytes that a message in a slot has.
+// How many slots a desk has: one for each digit.
+pub(crate) const SLOTS: usize = 10;
+
+// How many bytes a slot has room for.
 pub(crate) const SLOT_BYTES: usize = 1200;
 
-// A place for one message. A new one holds nothing.
+/// A place for one message (docs/TALLY.md, section 6). A new slot is empty.
 #[derive(Clone, Default, Drop)]
 pub struct Slot {
     message: ArrayVec<u8, SLOT_BYTES>,
@@ -20,7 +23,7 @@ impl Model for Slot {
 }
 
 impl Slot {
-    // The message, or no bytes where the slot holds nothing.
+    // The message, or no bytes where the slot is empty.
     pub(crate) fn message(&self) -> &[u8]
         ensures { result.now ≡ self.now }
     {
