@@ -1,18 +1,16 @@
-// The tally: runs a script from standard input on a new desk, and prints what its lines answer.
+// The tally: runs a script from standard input on a new desk, and prints what its lines answer (docs/TALLY.md).
 #![tactic(auto)]
 
 use kind::OnHand;
 use runs::each_movement_counted_once;
 use script::{Desk, LONGEST_SCRIPT, run_script};
-use std::io;
-use std::io::{Read, Write};
+use std::io::{self, Read, Write};
 
 fn main(rt: HostRuntime) -> io::Result<()> {
-    // The laws of whole runs, on the contract of this call.
+    // It computes nothing: the laws of whole runs are its contract (docs/LAWS.md).
     each_movement_counted_once::<OnHand>();
     let mut input = Vec::new(rt.alloc());
     rt.stdin()
-        // There is no `From` of a `usize`.
         .take(LONGEST_SCRIPT as u64)
         .read_to_end(&mut input)?;
     let mut desk = Desk::new(rt.alloc())?;

@@ -4,14 +4,20 @@
 
 ghost use Rattle.std.specs.Prelude.{◌≤◌, length, IfOk};
 
-use action::{Refusal, Setup};
+use action::{ACTION_BYTES, Refusal, Setup};
 use history::{History, PLACE_BYTES, Rack, Strip};
 use kind::OnHand;
+use message::{HEADER_BYTES, INTERVAL_BYTES, SECTION_BYTES};
 use std::io;
 use table::{Table, TableFault};
 
-// Posts a movement on article 0, and answers how many bytes of the buffer its message takes. `script` has
-// one like it, `move_stock`: the rules fix a table's calls, and an example is read by itself.
+// How many places each history has.
+const PLACES: usize = 64;
+
+// How many bytes the message of one movement has.
+const MESSAGE_BYTES: usize = HEADER_BYTES + SECTION_BYTES + INTERVAL_BYTES + ACTION_BYTES;
+
+// Posts a movement on article 0, and answers how many bytes of the buffer its message takes.
 fn post<H: History>(
     table: &mut Table<OnHand, H>,
     amount: i32,
@@ -20,14 +26,14 @@ fn post<H: History>(
     ensures { IfOk result (λ n. n ≤ length buffer.old) }
 {
     let ticket = table.open()?;
-    // What is refused hands the ticket back.
+    // Where the write or the commit is refused, the ticket is left over.
     let posted = match table.write(&ticket, 0, OnHand::ADD, amount) {
         Ok(_) => table.commit(ticket, buffer),
         Err(fault) => Err((fault, ticket)),
     };
     match posted {
         Ok((_, length)) => Ok(length),
-        // A ticket cannot be let go. It is the table's own, so abandoning is proved not to be refused.
+        // A ticket has to be spent. This one is the table's own, so the abandon is not refused.
         Err((fault, ticket)) => {
             table.abandon(ticket).unwrap();
             Err(fault)
@@ -35,12 +41,13 @@ fn post<H: History>(
     }
 }
 
-// Answers, for each of the two takes, how many actions were new and the figure after it.
+// Site 0 posts 1200, and site 1 takes the message twice. Answers, for each take, how many actions were new and
+// the figure after it.
 fn repeated_job(
     site_0: &mut Table<OnHand, Rack>,
     site_1: &mut Table<OnHand, Strip>,
 ) -> Result<[(usize, i64); 2], TableFault> {
-    let mut buffer = [0; 64];
+    let mut buffer = [0; MESSAGE_BYTES];
     let length = post(site_0, 1200, &mut buffer)?;
     let message = &buffer[..length];
     let once = (site_1.take(message)?, site_1.figure(0)?);
@@ -53,9 +60,8 @@ fn main(rt: HostRuntime) -> io::Result<()> {
     // Group 1 has two sites; these are sites 0 and 1, with one article. Both set-ups are lawful.
     let setup_0 = Setup::new(1, 2, 0, 1).unwrap();
     let setup_1 = Setup::new(1, 2, 1, 1).unwrap();
-    // Each history has 64 places.
-    let mut site_0 = Table::new(setup_0, Rack::new(heap, 64)?);
-    let mut site_1 = Table::new(setup_1, Strip::new(vec![in heap; 0; 64 * PLACE_BYTES]?));
+    let mut site_0 = Table::new(setup_0, Rack::new(heap, PLACES)?);
+    let mut site_1 = Table::new(setup_1, Strip::new(vec![in heap; 0; PLACES * PLACE_BYTES]?));
     match repeated_job(&mut site_0, &mut site_1) {
         Ok(takes) => for (taken, figure) in takes {
             println!(rt; "taken {taken}, figure {figure}")?;
