@@ -1,5 +1,8 @@
-// The worked examples as one table (`Table.antt`), each row of which is proved of the definitions. The rows
-// of figures and of the order stand here once more as code, and are proved to come out so.
+// The worked examples as one table (specs/Table.antt), each row of which is proved of the definitions. The rows
+// of figures and of the order stand here once more as code, and are proved to come out the same.
+//
+// The rows themselves say nothing of the code. That it computes what the definitions do, for all arguments, is
+// in the contracts of `Kind::step`, `Action::precedes` and `Table::take`.
 #![tactic(auto)]
 
 ghost use Rattle.std.specs.Prelude.{◌≡◌, true};
@@ -9,33 +12,23 @@ ghost use Rattle.kind.specs.Working.{working};
 ghost use Rattle.table.specs.Sound.{Sound};
 ghost use Rattle.examples.specs.Table.{Holds, at, doing, examples, site};
 
-#[cfg(test)]
-mod tests;
-
 use action::Action;
 use kind::{Flags, Kind, OnHand, Price};
 
-// An action of which only the pair matters.
-fn doing(operation: u8, amount: i32) -> Action
-    ensures { result ≡ doing (operation, amount) }
-{
-    Action {
-        coordinator: 0,
-        time: 1,
-        transaction: 1,
-        article: 0,
-        operation,
-        amount,
-    }
-}
+#[cfg(test)]
+mod tests;
 
-// Works the actions from the figure on.
-fn worked<K: Kind>(start: i64, actions: &[Action]) -> i64
-    ensures { result ≡ working K.means.steps start actions.now }
+/// Whether the examples of figures and of the order come out as expected: they do, as the contract says.
+pub fn examples_hold() -> bool
+    ensures code { result ≡ true }
+
+    // Every row of the table holds of the definitions.
+    ensures rows { AllByRecursion Holds examples }
+
+    // The table that the rows on taking a message are about is sound.
+    ensures sound { Sound on_hand site }
 {
-    actions.iter().fold(start, |figure, action| {
-        K::step(figure, action.operation, action.amount)
-    })
+    on_hand_holds() && set_prices_hold() && raised_prices_hold() && flags_hold() && order_holds()
 }
 
 fn on_hand_holds() -> bool
@@ -74,6 +67,38 @@ fn flags_hold() -> bool
     worked::<Flags>(5, &[doing(Flags::SWITCH_ON, 6)]) == 7
 }
 
+fn order_holds() -> bool
+    ensures { result ≡ true }
+{
+    let first = action_at(2, 0);
+    let second = action_at(2, 2);
+    let third = action_at(3, 0);
+    first.precedes(&second) && second.precedes(&third)
+}
+
+// Works the actions from the figure on.
+fn worked<K: Kind>(start: i64, actions: &[Action]) -> i64
+    ensures { result ≡ working K.means.steps start actions.now }
+{
+    actions.iter().fold(start, |figure, action| {
+        K::step(figure, action.operation, action.amount)
+    })
+}
+
+// An action of which only the pair matters.
+fn doing(operation: u8, amount: i32) -> Action
+    ensures { result ≡ doing (operation, amount) }
+{
+    Action {
+        coordinator: 0,
+        time: 1,
+        transaction: 1,
+        article: 0,
+        operation,
+        amount,
+    }
+}
+
 // An action of which only the time and the site matter.
 fn action_at(time: u32, site: u8) -> Action
     ensures { result ≡ at time site }
@@ -86,25 +111,4 @@ fn action_at(time: u32, site: u8) -> Action
         operation: 1,
         amount: 1,
     }
-}
-
-fn order_holds() -> bool
-    ensures { result ≡ true }
-{
-    let first = action_at(2, 0);
-    let second = action_at(2, 2);
-    let third = action_at(3, 0);
-    first.precedes(&second) && second.precedes(&third)
-}
-
-// Do the examples of figures and of the order come out as expected? They do, as they are written here. Each
-// row of `examples` holds of the definitions too, and the rows on taking a message are at a sound table
-// (`site`). The rows say nothing of the code: that it computes what the definitions do, for all arguments, is in
-// the contracts of `Kind::step`, `Action::precedes` and `Table::take`.
-pub fn examples_hold() -> bool
-    ensures code { result ≡ true }
-    ensures rows { AllByRecursion Holds examples }
-    ensures sound { Sound on_hand site }
-{
-    on_hand_holds() && set_prices_hold() && raised_prices_hold() && flags_hold() && order_holds()
 }
