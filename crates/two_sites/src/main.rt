@@ -4,18 +4,14 @@
 
 ghost use Rattle.std.specs.Prelude.{◌≤◌, length, IfOk};
 
-use action::{ACTION_BYTES, Refusal, Setup};
+use action::Setup;
 use history::{History, PLACE_BYTES, Rack, Strip};
 use kind::OnHand;
-use message::{HEADER_BYTES, INTERVAL_BYTES, SECTION_BYTES};
 use std::io;
 use table::{Table, TableFault};
 
 // How many places each history has.
 const PLACES: usize = 64;
-
-// How many bytes the message of one movement has.
-const MESSAGE_BYTES: usize = HEADER_BYTES + SECTION_BYTES + INTERVAL_BYTES + ACTION_BYTES;
 
 // Posts a movement on article 0, and answers how many bytes of the buffer its message takes.
 fn post<H: History>(
@@ -47,7 +43,8 @@ fn repeated_job(
     site_0: &mut Table<OnHand, Rack>,
     site_1: &mut Table<OnHand, Strip>,
 ) -> Result<[(usize, i64); 2], TableFault> {
-    let mut buffer = [0; MESSAGE_BYTES];
+    // The message of one movement has 37 bytes.
+    let mut buffer = [0; 37];
     let length = post(site_0, 1200, &mut buffer)?;
     let message = &buffer[..length];
     let once = (site_1.take(message)?, site_1.figure(0)?);
@@ -66,7 +63,7 @@ fn main(rt: HostRuntime) -> io::Result<()> {
         Ok(takes) => for (taken, figure) in takes {
             println!(rt; "taken {taken}, figure {figure}")?;
         },
-        Err(fault) => println!(rt; "refused {}", Refusal::from(fault).number)?,
+        Err(fault) => println!(rt; "{fault}")?,
     }
     Ok(())
 }
