@@ -10,9 +10,6 @@ use kind::OnHand;
 use std::io;
 use table::{Table, TableFault};
 
-// How many places each history has.
-const PLACES: usize = 64;
-
 // Posts a movement on article 0, and answers how many bytes of the buffer its message takes.
 fn post<H: History>(
     table: &mut Table<OnHand, H>,
@@ -57,8 +54,9 @@ fn main(rt: HostRuntime) -> io::Result<()> {
     // Group 1 has two sites; these are sites 0 and 1, with one article. Both set-ups are lawful.
     let setup_0 = Setup::new(1, 2, 0, 1).unwrap();
     let setup_1 = Setup::new(1, 2, 1, 1).unwrap();
-    let mut site_0 = Table::new(setup_0, Rack::new(heap, PLACES)?);
-    let mut site_1 = Table::new(setup_1, Strip::new(vec![in heap; 0; PLACES * PLACE_BYTES]?));
+    // Each history has 64 places.
+    let mut site_0 = Table::new(setup_0, Rack::new(heap, 64)?);
+    let mut site_1 = Table::new(setup_1, Strip::new(vec![in heap; 0; 64 * PLACE_BYTES]?));
     match repeated_job(&mut site_0, &mut site_1) {
         Ok(takes) => for (taken, figure) in takes {
             println!(rt; "taken {taken}, figure {figure}")?;
