@@ -1,11 +1,15 @@
-// What the programs that try the library out share: chance by seed, movements and how they are posted, and
+// What the programs share that try the library out: chance by seed, movements and how they are posted, and
 // histories by their names.
 #![tactic(auto)]
 
 mod dice;
 mod keeping;
+mod made;
 mod movement;
+mod no_job;
 
 pub use dice::Dice;
-pub use keeping::{Keeping, Made, NoJob};
+pub use keeping::Keeping;
+pub use made::Made;
 pub use movement::{Movement, post};
+pub use no_job::NoJob;

@@ -5,18 +5,16 @@ use history::History;
 use kind::Kind;
 use table::Table;
 
-// What is to be written: a pair, on an article.
+/// What one write asks for: a pair of operation and amount, on an article.
 #[derive(Clone, Copy, Default)]
 pub struct Movement {
     pub article: u8,
-    // A number, since each kind has operations of its own, and some pairs are to be refused.
     pub operation: u8,
     pub amount: i32,
 }
 
-// Posts a transaction of these movements, but for what is refused: in `script` and `two_sites` a refused
-// write ends it. Answers how many actions it had, and how many bytes its message has; `None` where the
-// table has a transaction open, or no room.
+/// Opens, writes and commits one transaction. Writes that are refused are left out of it.
+/// Answers its number of actions, and of bytes of its message. `None` says that it was not opened or not committed.
 pub fn post<K: Kind, H: History, I: Iterator<Item = Movement>>(
     table: &mut Table<K, H>,
     movements: I,
@@ -33,7 +31,6 @@ pub fn post<K: Kind, H: History, I: Iterator<Item = Movement>>(
             operation,
             amount,
         } = movement;
-        // Granted or refused, the ticket stays the table's.
         let _ = table.write(&ticket, article, operation, amount);
     }
     match table.commit(ticket, buffer) {
