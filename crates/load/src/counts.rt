@@ -1,7 +1,6 @@
 use std::fmt;
 
-// What came of the seasons so far (docs/LOAD.md says what each count is). They wrap, since a job may have any
-// number of seasons.
+// What came of the seasons so far. docs/LOAD.md says what each count is. A count wraps at 2⁶⁴.
 #[derive(Clone, Copy, Default)]
 pub struct Counts {
     pub(crate) commits: u64,
@@ -22,18 +21,18 @@ pub struct Counts {
     sum: u64,
 }
 
-// One more.
+// Counts one more.
 pub(crate) fn up(count: &mut u64) {
     *count = count.wrapping_add(1);
 }
 
-// So many more.
+// Counts so many more.
 pub(crate) fn up_by(count: &mut u64, more: usize) {
     *count = count.wrapping_add(more as u64);
 }
 
 impl Counts {
-    // Adds a figure to the sum.
+    // Takes a figure into the sum.
     pub(crate) fn add(&mut self, figure: i64) {
         self.sum = self
             .sum

@@ -1,4 +1,3 @@
-// Eight sites, and the network between them.
 use crate::counts::{Counts, up, up_by};
 use crate::posted::Posted;
 use crate::site::{SITES, Site};
@@ -11,9 +10,10 @@ use trials::{Dice, Made};
 // How many messages wait at a time.
 pub(crate) const SLOTS: u8 = 64;
 
+// Eight sites, and the network between them, which loses, repeats and misdirects messages.
 #[derive(Drop)]
 pub(crate) struct Group<K: Posted + Drop, H: History + Drop> {
-    // By number.
+    // By site.
     pub(crate) sites: Vec<Site<K, H>>,
     slots: Vec<Slot>,
     pub(crate) dice: Dice,
@@ -40,7 +40,7 @@ impl<K: Posted + Drop, H: History + Drop> Group<K, H> {
         self.counts
     }
 
-    // Sends a message to a site.
+    // Sends a message to a site: it is lost, or has to wait once or twice.
     pub(crate) fn send(&mut self, message: &[u8], site: u8) -> Result<(), AllocError> {
         if self.dice.chance(25) {
             up(&mut self.counts.lost);
@@ -53,7 +53,7 @@ impl<K: Posted + Drop, H: History + Drop> Group<K, H> {
         self.wait(message, site)
     }
 
-    // Where a message goes that is for a site: now and then astray.
+    // Where a message for a site goes: to that site, or now and then to any.
     fn way(&mut self, site: u8) -> u8 {
         if self.dice.chance(5) {
             up(&mut self.counts.astray);
@@ -62,7 +62,7 @@ impl<K: Posted + Drop, H: History + Drop> Group<K, H> {
         site
     }
 
-    // Has a message wait in a slot by chance, from which what waits there is delivered.
+    // Puts a message into a slot by chance. The message that waits there is delivered before.
     fn wait(&mut self, message: &[u8], site: u8) -> Result<(), AllocError> {
         let slot = self.dice.byte(SLOTS);
         let site = self.way(site);
@@ -73,7 +73,7 @@ impl<K: Posted + Drop, H: History + Drop> Group<K, H> {
         }
     }
 
-    // Delivers what waits in a slot.
+    // Delivers what waits in a slot: the site that it goes to takes it.
     fn deliver(&mut self, slot: u8) {
         let Some(slot) = self.slots.get_mut(usize::from(slot)) else {
             return;

@@ -1,5 +1,6 @@
 use crate::counts::Counts;
 use crate::group::Group;
+use crate::kind_name::KindName;
 use crate::posted::Posted;
 use history::{History, Rack, Strip};
 use kind::{Flags, OnHand, Price};
@@ -7,27 +8,7 @@ use std::alloc::{AllocError, Global};
 use std::str::FromStr;
 use trials::{Keeping, Made, NoJob};
 
-// The kind of all tables.
-#[derive(Clone, Copy)]
-enum KindName {
-    OnHand,
-    Flags,
-    Price,
-}
-
-impl FromStr for KindName {
-    type Err = NoJob;
-
-    fn from_str(word: &str) -> Result<KindName, NoJob> {
-        match word {
-            "on-hand" => Ok(KindName::OnHand),
-            "flags" => Ok(KindName::Flags),
-            "price" => Ok(KindName::Price),
-            _ => Err(NoJob),
-        }
-    }
-}
-
+// What a line asks for: so many seasons of one group.
 #[derive(Clone, Copy)]
 pub struct Job {
     keeping: Keeping,

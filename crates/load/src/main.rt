@@ -1,10 +1,11 @@
-// The load: does the work that each line of standard input names, and prints what came of it (docs/LOAD.md).
-// The output that is expected of it is the second program's.
+// Does the work that each line of standard input names, and prints what came of it (docs/LOAD.md). The second
+// program (`second/`) has to print the same.
 #![tactic(auto)]
 
 mod counts;
 mod group;
 mod job;
+mod kind_name;
 mod posted;
 mod season;
 mod site;

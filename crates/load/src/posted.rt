@@ -1,10 +1,9 @@
-// What the sites post, by chance.
 use kind::{Flags, Kind, OnHand, Price};
 use trials::Dice;
 
-// A kind of which pairs can be thrown.
+// A kind of figure for which what is posted can be drawn by chance.
 pub trait Posted: Kind {
-    // A pair that the kind knows.
+    // A pair of operation and amount that the kind knows.
     fn pair(dice: &mut Dice) -> (u8, i32);
 }
 

@@ -1,20 +1,27 @@
-// A season: the sites post until their histories are full, are brought level, looked at, and archive.
 use crate::counts::{up, up_by};
 use crate::group::Group;
 use crate::posted::Posted;
-use crate::site::{ARTICLES, PLACES, SITES};
-use history::History;
+use crate::site::{ARTICLES, SITES};
+use action::{ACTION_BYTES, MOST_SITES};
+use history::{History, MOST_PLACES};
+use message::{HEADER_BYTES, INTERVAL_BYTES, SECTION_BYTES};
 use std::alloc::AllocError;
 
-// As long as the longest message: an offer of 1,024 actions.
-const LONGEST: usize = 16_475;
+// As many bytes as the longest message has, an offer of all actions of a full history: one section, with an interval
+// for each site.
+const LONGEST: usize = HEADER_BYTES
+    + SECTION_BYTES
+    + MOST_SITES * INTERVAL_BYTES
+    + MOST_PLACES * ACTION_BYTES;
 
-// No share is larger than this, so nobody has more turns.
-const MOST_TURNS: u8 = 128;
+// The largest share of a site is an eighth of a history. Each turn has a write at least, so no site has more turns.
+const MOST_TURNS: usize = MOST_PLACES / MOST_SITES;
 
+// The most passes of a levelling.
 const MOST_PASSES: u8 = 100;
 
 impl<K: Posted + Drop, H: History + Drop> Group<K, H> {
+    // The sites post until their histories are full. They are brought level and looked at, and then they archive.
     pub(crate) fn season(&mut self) -> Result<(), AllocError> {
         let mut buffer = [0; LONGEST];
         self.share_out();
@@ -28,8 +35,8 @@ impl<K: Posted + Drop, H: History + Drop> Group<K, H> {
 
     // Shares the free places of a history out among the sites.
     fn share_out(&mut self) {
-        let kept = self.sites.first().map_or(PLACES, |site| site.kept);
-        let free = PLACES.saturating_sub(kept);
+        let kept = self.sites.first().map_or(MOST_PLACES, |site| site.kept);
+        let free = MOST_PLACES.saturating_sub(kept);
         let each = usize::from(SITES);
         for (number, site) in self.sites.iter_mut().enumerate() {
             site.share = free / each + usize::from(number < free % each);
@@ -43,7 +50,7 @@ impl<K: Posted + Drop, H: History + Drop> Group<K, H> {
         Ok(())
     }
 
-    // Each site has a turn that has a share left.
+    // Each site with something left of its share has a turn.
     fn post_round(&mut self, buffer: &mut [u8]) -> Result<(), AllocError> {
         (0..SITES).try_for_each(|site| self.turn(site, buffer))
     }
@@ -76,7 +83,7 @@ impl<K: Posted + Drop, H: History + Drop> Group<K, H> {
         Ok(())
     }
 
-    // Offers go round until nobody lacks anything.
+    // Offers go round, pass after pass, until no site lacks anything or the passes are used up.
     fn level(&mut self, buffer: &mut [u8]) -> Result<(), AllocError> {
         for _ in 0..MOST_PASSES {
             let before = self.counts.offers;
@@ -102,7 +109,7 @@ impl<K: Posted + Drop, H: History + Drop> Group<K, H> {
         (0..SITES).try_for_each(|peer| self.offer(site, peer, article, buffer))
     }
 
-    // Does a site lack what another could tell it?
+    // Does the peer lack what the site could tell it of itself?
     fn is_due(&self, number: u8, peer: u8, article: u8) -> bool {
         let site = self.sites.get(usize::from(number));
         let peer = self.sites.get(usize::from(peer));
@@ -112,8 +119,7 @@ impl<K: Posted + Drop, H: History + Drop> Group<K, H> {
         }
     }
 
-    // A site makes an offer where one is due, and sends it. Sites do not differ from themselves, so none makes
-    // one for itself.
+    // Where an offer is due, the site makes it and sends it. None is ever due to the site itself.
     fn offer(
         &mut self,
         number: u8,
@@ -135,7 +141,7 @@ impl<K: Posted + Drop, H: History + Drop> Group<K, H> {
         }
     }
 
-    // Looks at all figures.
+    // Counts the articles that are level, and takes all figures into the sum.
     fn look(&mut self) {
         for article in 0..ARTICLES {
             if self.is_level(article) {
@@ -159,6 +165,7 @@ impl<K: Posted + Drop, H: History + Drop> Group<K, H> {
         }
     }
 
+    // Counts the histories that are full.
     fn count_full(&mut self, buffer: &mut [u8]) {
         for site in &mut self.sites {
             if site.is_full(buffer) {

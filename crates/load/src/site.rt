@@ -1,22 +1,21 @@
-// One site: its table, and what the seasons need to know of it.
 ghost use Rattle.std.specs.Prelude.{◌<◌};
 
 use crate::posted::Posted;
-use action::Setup;
-use history::History;
+use action::{MOST_ARTICLES, MOST_SITES, Setup};
+use history::{History, MOST_PLACES};
 use std::alloc::{AllocError, Global};
 use table::Table;
 use trials::{Dice, Made, Movement, post};
 
-pub(crate) const SITES: u8 = 8;
+// The group has as many sites and articles as a group may have.
+pub(crate) const SITES: u8 = MOST_SITES as u8;
 
-pub(crate) const ARTICLES: u8 = 64;
-
-pub(crate) const PLACES: usize = 1024;
+pub(crate) const ARTICLES: u8 = MOST_ARTICLES as u8;
 
 // The most writes of a turn.
 const WRITES: usize = 4;
 
+// A site's table, and what the seasons need to know of the site.
 #[derive(Drop)]
 pub(crate) struct Site<K: Posted + Drop, H: History + Drop> {
     pub(crate) table: Table<K, H>,
@@ -39,7 +38,7 @@ impl<K: Posted + Drop, H: History + Made + Drop> Site<K, H> {
         requires { site < 8 }
     {
         Ok(Site {
-            table: Table::new(setup_of(site), H::made(heap, PLACES)?),
+            table: Table::new(setup_of(site), H::made(heap, MOST_PLACES)?),
             kept: 0,
             share: 0,
             next: 0,
@@ -83,7 +82,7 @@ impl<K: Posted + Drop, H: History + Drop> Site<K, H> {
         Some(posted)
     }
 
-    // Has the history no place for one write more?
+    // Has the history no place for one write more? It is tried out: where there is a place, the write is posted.
     pub(crate) fn is_full(&mut self, buffer: &mut [u8]) -> bool {
         let more = Movement {
             article: 0,
@@ -95,25 +94,27 @@ impl<K: Posted + Drop, H: History + Drop> Site<K, H> {
         posted.is_none()
     }
 
-    // What the table knows of a site, 0 where there is nothing to know.
-    fn known(&self, article: u8, z: u8, q: u8) -> u32 {
-        self.table.known(article, z, q).unwrap_or(0)
+    // Up to which time `knower` is known to have the coordinator's actions on the article.
+    fn known(&self, article: u8, knower: u8, coordinator: u8) -> u32 {
+        self.table.known(article, knower, coordinator).unwrap_or(0)
     }
 
-    // Does it know less of another site than that one itself?
+    // Does it know less of the other site, which has this number, than that site knows of itself?
     pub(crate) fn knows_less_of(&self, other: &Site<K, H>, number: u8, article: u8) -> bool {
-        (0..SITES).any(|q| self.known(article, number, q) < other.known(article, number, q))
+        (0..SITES).any(|coordinator| self.known(article, number, coordinator)
+            < other.known(article, number, coordinator))
     }
 
-    // Does it show the same entries of a site as another?
-    fn agrees_about(&self, other: &Site<K, H>, article: u8, z: u8) -> bool {
-        (0..SITES).all(|q| self.known(article, z, q) == other.known(article, z, q))
+    // Do both sites show the same of what `knower` has of an article?
+    fn agrees_about(&self, other: &Site<K, H>, article: u8, knower: u8) -> bool {
+        (0..SITES).all(|coordinator| self.known(article, knower, coordinator)
+            == other.known(article, knower, coordinator))
     }
 
-    // Does it show the same of an article as another?
+    // Do both sites show the same of an article?
     pub(crate) fn agrees(&self, other: &Site<K, H>, article: u8) -> bool {
         self.figure(article) == other.figure(article)
-            && (0..SITES).all(|z| self.agrees_about(other, article, z))
+            && (0..SITES).all(|knower| self.agrees_about(other, article, knower))
     }
 
     pub(crate) fn figure(&self, article: u8) -> i64 {

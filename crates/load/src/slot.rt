@@ -4,11 +4,12 @@ use std::alloc::{AllocError, Global};
 #[derive(Drop)]
 pub(crate) struct Slot {
     message: Vec<u8>,
-    // Where it goes; nowhere if none waits.
+    // Where the message goes; `None` where none waits.
     site: Option<u8>,
 }
 
 impl Slot {
+    // A slot in which no message waits.
     pub(crate) fn empty(heap: Global) -> Slot {
         Slot {
             message: Vec::new(heap),
@@ -24,7 +25,7 @@ impl Slot {
         Ok(())
     }
 
-    // The message that waits, and its site. The slot is empty afterwards.
+    // The message that waits, and the site that it goes to. The slot is empty afterwards.
     pub(crate) fn release(&mut self) -> Option<(u8, &[u8])> {
         let site = self.site.take()?;
         Some((site, &self.message))

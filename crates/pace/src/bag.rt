@@ -1,17 +1,24 @@
 ghost use Rattle.std.specs.Prelude.{◌<◌};
 ghost use Rattle.std.specs.Slice.Iter.{chunks_exact_size};
 
+use action::ACTION_BYTES;
+use history::MOST_PLACES;
+use message::{HEADER_BYTES, INTERVAL_BYTES, SECTION_BYTES};
 use std::alloc::{AllocError, Global};
 use std::slice::ChunksExact;
 
-// Room for the messages of 1,024 transactions of one write.
-const ROOM: usize = 37_888;
+// How long the message of a transaction of one write is: one section, of one interval and one action.
+const MESSAGE: usize = HEADER_BYTES + SECTION_BYTES + INTERVAL_BYTES + ACTION_BYTES;
 
-// Messages of one length, one behind the other.
+// Room for such a message for each place that a history may have.
+const ROOM: usize = MOST_PLACES * MESSAGE;
+
+// Messages of one length, one behind the other. They share one buffer, so that a message that is added asks for no
+// memory while there is room.
 #[derive(Drop)]
 pub struct Bag {
     bytes: Vec<u8>,
-    // How long each message is. A list of messages would get memory for each, and that would be measured too.
+    // How long each message is.
     each: usize,
 }
 
@@ -41,6 +48,7 @@ impl Bag {
         self.bytes.len()
     }
 
+    // A sum in which every byte and the order of the bytes count.
     pub(crate) fn sum(&self) -> u32 {
         self.bytes.iter().fold(0, |sum, byte| {
             (sum ^ u32::from(*byte)).wrapping_mul(16_777_619)

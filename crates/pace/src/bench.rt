@@ -1,10 +1,11 @@
 ghost use Rattle.std.specs.Prelude.{◌<◌};
 
 use crate::bag::Bag;
-use crate::job::Work;
-use action::Setup;
-use history::History;
+use crate::call::Work;
+use action::{ACTION_BYTES, Setup};
+use history::{History, MOST_PLACES};
 use kind::OnHand;
+use message::{HEADER_BYTES, INTERVAL_BYTES, SECTION_BYTES};
 use std::alloc::{AllocError, Global};
 use std::ops::Range;
 use table::Table;
@@ -13,13 +14,21 @@ use trials::{Made, Movement, post};
 // The articles of a table.
 pub(crate) const ARTICLES: [u8; 4] = [0, 1, 2, 3];
 
+const SITES: usize = 3;
+
 // Messages go from one site to another.
 const SENDER: u8 = 0;
 
 const RECEIVER: u8 = 1;
 
-// As long as the longest message, an offer of 256 actions.
-const LONGEST: usize = 4137;
+// How many actions the longest message has: an offer of one of the articles, which share a full history.
+const MOST_ACTIONS: usize = MOST_PLACES / ARTICLES.len();
+
+// As many bytes as that message has: one section, with an interval for each site.
+const LONGEST: usize = HEADER_BYTES
+    + SECTION_BYTES
+    + SITES * INTERVAL_BYTES
+    + MOST_ACTIONS * ACTION_BYTES;
 
 // A table with the messages that it wrote, or that it takes.
 #[derive(Drop)]
@@ -33,11 +42,11 @@ pub struct Bench<H: History> {
     buffer: [u8; LONGEST],
 }
 
-// The set-up of one of three sites, with four articles.
+// The set-up of one of the sites.
 fn setup_of(site: u8) -> Setup
     requires { site < 3 }
 {
-    Setup::new(1, 3, u32::from(site), 4).unwrap()
+    Setup::new(1, SITES as u32, u32::from(site), ARTICLES.len() as u32).unwrap()
 }
 
 impl<H: History + Made + Drop> Bench<H> {
@@ -68,17 +77,17 @@ impl<H: History + Made + Drop> Bench<H> {
     }
 }
 
-// The movement of a number.
+// The movement that a number stands for: the articles take turns, and the amounts go from −500 to 499.
 fn movement(number: usize) -> Movement {
     Movement {
         article: ARTICLES[number % ARTICLES.len()],
         operation: OnHand::ADD,
-        // `as` keeps what is below 1,000, which is proved.
         amount: (number % 1000) as i32 - 500,
     }
 }
 
-// The calls, each over all of a table or of the messages. What is refused adds nothing.
+// The work of a round, each kind over a whole table or over all messages. A call that is refused adds no message and
+// no answer.
 impl<H: History> Bench<H> {
     // Posts a transaction of the movements of these numbers.
     fn post(&mut self, numbers: Range<usize>) -> Result<(), AllocError> {

@@ -1,74 +1,21 @@
+use crate::bench::{ARTICLES, Bench};
+use crate::call::{Basis, Call, Start};
+use crate::report::Report;
+use history::{History, Rack, Strip};
+use std::alloc::{AllocError, Global};
 use std::str::FromStr;
-use trials::{Keeping, NoJob};
+use trials::{Keeping, Made, NoJob};
 
-// What there is before the first round.
-#[derive(Clone, Copy)]
-pub enum Start {
-    // An empty table.
-    Empty,
-    // A full table, filled by transactions of one write.
-    Full,
-    // An empty table, and the messages of a full one: those of its transactions, or its offers.
-    Transactions,
-    Offers,
-}
-
-// Which table a round works on: a new one, or that of the round before.
-#[derive(Clone, Copy)]
-pub enum Basis {
-    New,
-    Same,
-}
-
-// What a round does with its table.
-#[derive(Clone, Copy)]
-pub enum Work {
-    Nothing,
-    // Fills it by transactions of one write, or of sixteen.
-    Commit1,
-    Commit16,
-    // Offers every article.
-    Offer,
-    // Takes every message.
-    Take,
-}
-
-// A call, as what it is made of.
-#[derive(Clone, Copy)]
-pub struct Call {
-    pub start: Start,
-    pub basis: Basis,
-    pub work: Work,
-}
-
+// What a line asks for: a call, on tables of so many places, once and then in so many rounds.
 #[derive(Clone, Copy)]
 pub struct Job {
-    pub keeping: Keeping,
-    pub call: Call,
-    pub places: usize,
-    pub rounds: u32,
+    keeping: Keeping,
+    call: Call,
+    places: usize,
+    rounds: u32,
 }
 
-impl FromStr for Call {
-    type Err = NoJob;
-
-    fn from_str(word: &str) -> Result<Call, NoJob> {
-        let (start, basis, work) = match word {
-            "new" => (Start::Empty, Basis::New, Work::Nothing),
-            "commit-1" => (Start::Empty, Basis::New, Work::Commit1),
-            "commit-16" => (Start::Empty, Basis::New, Work::Commit16),
-            "offer" => (Start::Full, Basis::Same, Work::Offer),
-            "take-1" => (Start::Transactions, Basis::New, Work::Take),
-            "take-many" => (Start::Offers, Basis::New, Work::Take),
-            "again-1" => (Start::Transactions, Basis::Same, Work::Take),
-            "again-many" => (Start::Offers, Basis::Same, Work::Take),
-            _ => return Err(NoJob),
-        };
-        Ok(Call { start, basis, work })
-    }
-}
-
-// A line has four words: `rack` or `strip`, the work, the places and the rounds. Where the places are a
+// A line has four words: `rack` or `strip`, the call, the places and the rounds. Where the places are a
 // multiple of sixteen, all messages of a job have one length.
 impl FromStr for Job {
     type Err = NoJob;
@@ -86,5 +33,53 @@ impl FromStr for Job {
             None => Ok(job),
             Some(_) => Err(NoJob),
         }
+    }
+}
+
+impl Job {
+    // Does the job on a table of the history that its line names.
+    pub(crate) fn answer(&self, heap: Global) -> Result<Report, AllocError> {
+        match self.keeping {
+            Keeping::Rack => self.run::<Rack>(heap),
+            Keeping::Strip => self.run::<Strip>(heap),
+        }
+    }
+
+    // Does the work once, and then as often as there are rounds.
+    fn run<H: History + Made + Drop>(&self, heap: Global) -> Result<Report, AllocError> {
+        let mut bench: Bench<H> = self.prepared(heap)?;
+        let mut answers = bench.work(self.call.work)?;
+        for _ in 0..self.rounds {
+            if let Basis::New = self.call.basis {
+                bench.renew()?;
+            }
+            answers = answers.wrapping_add(bench.work(self.call.work)?);
+        }
+        Ok(Report {
+            answers,
+            bytes: bench.bag.sum(),
+            figures: ARTICLES.map(|article| bench.table.figure(article).unwrap_or(0)),
+        })
+    }
+
+    // The table and the messages that there are before the first round.
+    fn prepared<H: History + Made + Drop>(&self, heap: Global) -> Result<Bench<H>, AllocError> {
+        let mut bench: Bench<H> = Bench::new(heap, self.places)?;
+        match self.call.start {
+            Start::Empty => {}
+            Start::Full => {
+                bench.commit_all(1)?;
+            }
+            Start::Transactions => {
+                bench.commit_all(1)?;
+                bench.hand_over()?;
+            }
+            Start::Offers => {
+                bench.commit_all(1)?;
+                bench.offer_all()?;
+                bench.hand_over()?;
+            }
+        }
+        Ok(bench)
     }
 }

@@ -1,12 +1,14 @@
-// The pace: does the work that each line of standard input names so many times, and prints a sum of all
-// answers, a sum of the bytes of the messages, and the figures at the end. What it takes is measured from
-// outside (scripts/pace). The output that is expected of it is the second program's.
+// Does the work that each line of standard input names, as often as the line says. Prints a sum of all answers, a
+// sum of the bytes of the messages, and the figures at the end. `scripts/pace` measures how long it takes.
+//
+// The second program (`second/`) has to print the same.
 #![tactic(auto)]
 
 mod bag;
 mod bench;
+mod call;
 mod job;
-mod round;
+mod report;
 
 use crate::job::Job;
 use std::io;
