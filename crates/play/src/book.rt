@@ -1,56 +1,24 @@
-// The book: what a reader of the lines writes down, from who called what and whether it was granted.
-use crate::walk::FoundInterval;
+use crate::found_interval::FoundInterval;
+use crate::page::Page;
 use action::Action;
 use kind::Kind;
 use std::alloc::{AllocError, Global};
 use std::collections::BTreeMap;
 use trials::Movement;
 
-// Where an action stands in the order of actions: by time, then by coordinator, then by article. It is
-// written here a second time, so that the book leans on no order of the library's.
+// Where an action stands in the order of actions: by time, then by coordinator, then by article. This is code of the
+// program's own, which the library's order is tested against.
 type Rank = (u32, u8, u8);
 
 fn rank(action: &Action) -> Rank {
     (action.time, action.coordinator, action.article)
 }
 
-// What the book has of one site.
-#[derive(Drop)]
-struct Page {
-    // By article and coordinator: up to what time the site has the coordinator's actions, where it has any.
-    reach: BTreeMap<(u8, u8), u32>,
-    // The actions of its open transaction, in the order of the writes.
-    pending: Vec<Action>,
-    // How many actions it has archived.
-    archived: usize,
-}
-
-impl Page {
-    fn new(heap: Global) -> Page {
-        Page {
-            reach: BTreeMap::new(heap),
-            pending: Vec::new(heap),
-            archived: 0,
-        }
-    }
-
-    fn reach(&self, article: u8, coordinator: u8) -> u32 {
-        self.reach
-            .get(&(article, coordinator))
-            .copied()
-            .unwrap_or(0)
-    }
-
-    fn raise(&mut self, article: u8, coordinator: u8, to: u32) -> Result<(), AllocError> {
-        let reach = self.reach.entry((article, coordinator))?.or_insert(0);
-        *reach = (*reach).max(to);
-        Ok(())
-    }
-}
-
-// What the granted calls come to: what each site has, and what has been committed.
+// What a reader of the lines writes down, from who called what and whether it was granted: what each site has, and
+// what has been committed.
 #[derive(Drop)]
 pub(crate) struct Book {
+    // By site.
     pages: Vec<Page>,
     // Every action of a granted commit, in the order of actions.
     pub(crate) committed: BTreeMap<Rank, Action>,
@@ -72,6 +40,7 @@ impl Book {
         self.pages.get_mut(usize::from(site))
     }
 
+    // Up to what time the site has the coordinator's actions on the article.
     pub(crate) fn reach(&self, site: u8, article: u8, coordinator: u8) -> u32 {
         self.page(site)
             .map_or(0, |page| page.reach(article, coordinator))
@@ -79,8 +48,7 @@ impl Book {
 
     // The greatest time that the site has reached.
     pub(crate) fn greatest(&self, site: u8) -> u32 {
-        self.page(site)
-            .map_or(0, |page| page.reach.values().copied().max().unwrap_or(0))
+        self.page(site).map_or(0, |page| page.greatest())
     }
 
     // How many writes the site's open transaction has.
@@ -88,7 +56,7 @@ impl Book {
         self.page(site).map_or(0, |page| page.pending.len())
     }
 
-    // A write was granted; answers the time that it has to have.
+    // A write was granted. Answers the time that it has to have.
     pub(crate) fn write(&mut self, site: u8, movement: Movement) -> Result<u32, AllocError> {
         let greatest = self.greatest(site);
         let before = u32::try_from(self.writes(site)).unwrap_or(0);
@@ -113,8 +81,8 @@ impl Book {
         }
     }
 
-    // Puts an action among the committed ones, which its coordinator reaches. Answers whether no other has
-    // its coordinator and time.
+    // Puts an action among the committed ones; its coordinator has it from now on. Answers whether no other has its
+    // coordinator and time.
     fn enter(&mut self, action: Action) -> Result<bool, AllocError> {
         let is_new = !self.committed.values().any(|other| other.coordinator == action.coordinator
             && other.time == action.time);
@@ -138,21 +106,21 @@ impl Book {
         Ok(are_new)
     }
 
-    // A take was granted: the site reaches what the message's intervals go up to.
-    pub(crate) fn take(&mut self, site: u8, stretches: &[FoundInterval]) -> Result<(), AllocError> {
+    // A take was granted: the site has all actions up to where the message's intervals end.
+    pub(crate) fn take(&mut self, site: u8, intervals: &[FoundInterval]) -> Result<(), AllocError> {
         let Some(page) = self.page_mut(site) else {
             return Ok(());
         };
-        for stretch in stretches {
-            page.raise(stretch.article, stretch.site, stretch.to)?;
+        for interval in intervals {
+            page.raise(interval.article, interval.site, interval.to)?;
         }
         Ok(())
     }
 
     // Does some interval begin above what the site has?
-    pub(crate) fn is_behind(&self, site: u8, stretches: &[FoundInterval]) -> bool {
-        stretches.iter().any(|stretch| stretch.from
-            > self.reach(site, stretch.article, stretch.site))
+    pub(crate) fn is_behind(&self, site: u8, intervals: &[FoundInterval]) -> bool {
+        intervals.iter().any(|interval| interval.from
+            > self.reach(site, interval.article, interval.site))
     }
 
     // Does the site have the action?
@@ -160,11 +128,11 @@ impl Book {
         action.time <= self.reach(site, action.article, action.coordinator)
     }
 
-    // How many committed actions the site would come to have by the intervals.
-    pub(crate) fn news(&self, site: u8, stretches: &[FoundInterval]) -> usize {
+    // How many committed actions a take of these intervals would bring the site.
+    pub(crate) fn news(&self, site: u8, intervals: &[FoundInterval]) -> usize {
         self.committed
             .values()
-            .filter(|action| !self.reaches(site, action) && is_carried(action, stretches))
+            .filter(|action| !self.reaches(site, action) && is_carried(action, intervals))
             .count()
     }
 
@@ -214,11 +182,11 @@ impl Book {
     }
 }
 
-// Does some interval go up to the action?
-fn is_carried(action: &Action, stretches: &[FoundInterval]) -> bool {
-    stretches.iter().any(|stretch| {
-        stretch.article == action.article
-            && stretch.site == action.coordinator
-            && action.time <= stretch.to
+// Is there an interval that goes up to the action?
+fn is_carried(action: &Action, intervals: &[FoundInterval]) -> bool {
+    intervals.iter().any(|interval| {
+        interval.article == action.article
+            && interval.site == action.coordinator
+            && action.time <= interval.to
     })
 }

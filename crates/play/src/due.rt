@@ -1,5 +1,4 @@
-// The refusals that a line can be due, each by its number. They are not the tables' own faults, so that what
-// is due leans on none of them.
+// The refusal that a line has to meet, by its number. It is worked without the faults that a table answers.
 #[derive(Clone, Copy)]
 pub(crate) enum Due {
     AlreadyOpen = 2,

@@ -1,27 +1,30 @@
-// Bytes that no table wrote: a damaged copy of a message, or noise. Every table has to refuse them, and the
-// damage says by which number. Nothing is forged that a table could believe, such as a peer's interval that
-// goes further than the peer.
 ghost use Rattle.std.specs.Prelude.{◌≤◌, IfSome};
 
 use crate::book::Book;
 use crate::due::Due;
+use crate::found_interval::intervals;
 use crate::run::Run;
-use crate::walk::stretches;
+use action::{ACTION_BYTES, LATEST_TIME};
 use kind::Kind;
+use message::{HEADER_BYTES, INTERVAL_BYTES, SECTION_BYTES};
 use std::alloc::AllocError;
+use table::MOST_WRITES;
 use trials::Dice;
 
-// Where in a message the header's last two fields stand, the first section's head, and its first interval.
+// The most sections that a message may have: one for each write that a transaction may have.
+const MOST_SECTIONS: u8 = MOST_WRITES as u8;
+
+// Where the last two fields of the header stand in it.
 const SENDER: usize = 4;
 
 const SECTIONS: usize = 5;
 
-const HEAD: usize = 6;
+// Where the first section's head and first interval begin in a message.
+const HEAD: usize = HEADER_BYTES;
 
-const FIRST: usize = 11;
+const FIRST: usize = HEAD + SECTION_BYTES;
 
-// Where the fields of a section's head stand in it. How many actions there are takes two bytes, of which this
-// is the low one.
+// Where the fields of a section's head stand in it. The number of actions has two bytes; this is the low one.
 const ABOUT: usize = 1;
 
 const INTERVALS: usize = 2;
@@ -44,12 +47,8 @@ const ARTICLE: usize = 10;
 
 const OPERATION: usize = 11;
 
-// How many bytes an interval and an action have.
-const INTERVAL: usize = 10;
-
-const ACTION: usize = 16;
-
-// The copy of a message that is damaged, and the dice that say how.
+// Makes bytes that no table wrote, which every table has to refuse: noise, or a damaged copy of a message. The damage
+// says which refusal is due. No lawful message is made that says something untrue, since a table would take that.
 #[derive(Drop)]
 struct Forger<'a> {
     copy: &'a mut Vec<u8>,
@@ -57,6 +56,7 @@ struct Forger<'a> {
 }
 
 impl Forger<'_> {
+    // The byte at an offset; 0 behind the end.
     fn byte_at(&self, at: usize) -> u8 {
         self.copy.get(at).copied().unwrap_or(0)
     }
@@ -67,14 +67,14 @@ impl Forger<'_> {
         }
     }
 
-    // Makes another byte of the one at the place.
+    // Puts another byte in place of the one at an offset.
     fn change(&mut self, at: usize) {
         let old = self.byte_at(at);
         let flips = self.dice.byte(255) + 1;
         self.patch(at, old ^ flips);
     }
 
-    // Writes a time at a place.
+    // Writes a time at an offset.
     fn patch_time(&mut self, at: usize, time: u32) {
         for (place, byte) in self.copy.iter_mut().skip(at).zip(time.to_be_bytes()) {
             *place = byte;
@@ -95,7 +95,6 @@ impl Forger<'_> {
     // The message without its end.
     fn cut(&mut self) -> Due {
         let length = u32::try_from(self.copy.len()).unwrap_or(0);
-        // Not `usize::from`, which takes no 32 bits.
         self.copy.truncate(self.dice.below(length) as usize);
         Due::Cut
     }
@@ -127,7 +126,7 @@ impl Forger<'_> {
             _ => {
                 let sections = match self.dice.byte(200) {
                     0 => 0,
-                    more => more + 16,
+                    more => more + MOST_SECTIONS,
                 };
                 self.patch(SECTIONS, sections);
                 Due::Broken
@@ -156,17 +155,17 @@ impl Forger<'_> {
                 self.patch(FIRST + SITE, site);
             }
             5 => self.patch_time(FIRST + FROM, u32::MAX),
-            _ => self.patch_time(FIRST + TO, 4_000_000_001),
+            _ => self.patch_time(FIRST + TO, LATEST_TIME + 1),
         }
         Due::Broken
     }
 
-    // Where the first section's first action stands; `None` where it has none.
+    // Where the first section's first action begins, if it has one. A section has 255 intervals at the most.
     fn first_action(&self) -> Option<usize>
         ensures { IfSome result (λ at. at ≤ 2561) }
     {
         let intervals = usize::from(self.byte_at(HEAD + INTERVALS));
-        let at = FIRST + INTERVAL * intervals;
+        let at = FIRST + INTERVAL_BYTES * intervals;
         (self.byte_at(at) == b'A').then_some(at)
     }
 
@@ -184,28 +183,28 @@ impl Forger<'_> {
         Due::Broken
     }
 
-    // Says the last action of a message of one section twice. There are never so many actions that the low
-    // byte of their number is full.
+    // Has a message of one section carry its last action twice. It has so few actions that the low byte of their number
+    // can count one more.
     fn double_action(&mut self) -> Result<Due, AllocError> {
         if self.first_action().is_none() || self.byte_at(SECTIONS) != 1 {
             return Ok(self.cut());
         }
-        let last = self.copy.len().saturating_sub(ACTION);
+        let last = self.copy.len().saturating_sub(ACTION_BYTES);
         self.copy.extend_from_within(last..)?;
         let count = self.byte_at(HEAD + ACTIONS);
         self.patch(HEAD + ACTIONS, count.wrapping_add(1));
         Ok(Due::Broken)
     }
 
-    // Has the message say of the taking site that it has done more than it has.
+    // Has the message say that the taking site has committed more than it has.
     fn claim(&mut self, site: u8, book: &Book) -> Result<Due, AllocError> {
-        let told = stretches(*self.copy.allocator(), self.copy)?;
-        let Some(own) = told.iter().find(|stretch| stretch.site == site) else {
+        let intervals = intervals(*self.copy.allocator(), self.copy)?;
+        let Some(own) = intervals.iter().find(|interval| interval.site == site) else {
             return Ok(self.cut());
         };
         let done = book.reach(site, own.article, site);
         self.patch_time(own.at.wrapping_add(TO), done.wrapping_add(1));
-        if book.is_behind(site, &told) {
+        if book.is_behind(site, &intervals) {
             Ok(Due::Behind)
         } else {
             Ok(Due::Ahead)

@@ -1,77 +1,43 @@
-// The laws of whole runs, held against the book.
-use crate::report::{Law, up};
-use crate::run::Run;
-use kind::Kind;
+use std::fmt;
 
-impl<K: Kind + Drop, J: Kind + Drop> Run<K, J> {
-    // Is the site's reception vector of the article as the book has it?
-    fn has_vector(&self, site: u8, article: u8) -> bool {
-        (0..self.sites).all(|q| self.known(site, article, site, q)
-            == Some(self.book.reach(site, article, q)))
-    }
+// What the program holds a run to. The letters are those of docs/PLAY.md.
+#[derive(Clone, Copy)]
+pub(crate) enum Law {
+    // a: the figure is that of the committed actions that the site has.
+    Figure,
+    // a: the reception vector is as the book has it.
+    Vector,
+    // a: no two committed actions have the same coordinator and time.
+    Distinct,
+    // b: where nothing is open all sites have the same figure and vector.
+    Level,
+    // c: a message that was taken before changes nothing.
+    Repeat,
+    // The clock is the greatest time that the site has reached.
+    Clock,
+    // No table says more of another site than that site has.
+    Belief,
+    // Only a commit and a take that are granted change what a table shows.
+    Still,
+    // A call is granted, or refused by the number that the rules say.
+    Refusal,
+    // What a granted call answers.
+    Answer,
+}
 
-    // Does the site's table say of `z` no more than `z` has?
-    fn is_modest_about(&self, site: u8, article: u8, z: u8) -> bool {
-        (0..self.sites).all(|q| {
-            self.known(site, article, z, q)
-                .is_some_and(|known| known <= self.book.reach(z, article, q))
+impl fmt::Display for Law {
+    fn fmt<W: fmt::Write>(&self, f: &mut fmt::Formatter<W>) -> fmt::Result {
+        f.write_str(match self {
+            Law::Figure => "a, figure",
+            Law::Vector => "a, vector",
+            Law::Distinct => "a, distinct",
+            Law::Level => "b",
+            Law::Repeat => "c",
+            Law::Clock => "clock",
+            Law::Belief => "belief",
+            Law::Still => "still",
+            Law::Refusal => "refusal",
+            Law::Answer => "answer",
         })
-    }
-
-    // Law a at one site, for all articles: each committed action that the site has is counted once.
-    pub(crate) fn check_site(&mut self, site: u8) {
-        let is_on_time = self.clock(site) == Some(self.book.greatest(site));
-        self.counts.hold(Law::Clock, site, is_on_time);
-        for article in 0..self.articles {
-            self.check_article(site, article);
-        }
-    }
-
-    // Law a for one article.
-    fn check_article(&mut self, site: u8, article: u8) {
-        let is_figure = self.figure(site, article) == Some(self.book.figure::<K>(site, article));
-        self.counts.hold(Law::Figure, site, is_figure);
-        let is_vector = self.has_vector(site, article);
-        self.counts.hold(Law::Vector, site, is_vector);
-        let is_modest = (0..self.sites).all(|z| self.is_modest_about(site, article, z));
-        self.counts.hold(Law::Belief, site, is_modest);
-        up(&mut self.counts.figures, 1);
-    }
-
-    // Has the site no open item for the article?
-    fn is_closed_at(&self, site: u8, article: u8) -> bool {
-        (0..self.sites).all(|peer| self.open_item(site, article, peer) == Some(false))
-    }
-
-    // Do two sites show the same figure and the same reception vector of the article?
-    fn is_alike(&self, one: u8, other: u8, article: u8) -> bool {
-        self.figure(one, article) == self.figure(other, article)
-            && (0..self.sites).all(|q| self.known(one, article, one, q)
-                == self.known(other, article, other, q))
-    }
-
-    // Law b: where nothing is open all sites are level, and each has every committed action, which law a counts.
-    fn check_levels(&mut self, article: u8) {
-        if !(0..self.sites).all(|site| self.is_closed_at(site, article)) {
-            return;
-        }
-        up(&mut self.counts.levels, 1);
-        if self.book.has_moved(article) {
-            up(&mut self.counts.moved_levels, 1);
-        }
-        for site in 0..self.sites {
-            let is_level = self.is_alike(0, site, article) && self.book.has_all(site, article);
-            self.counts.hold(Law::Level, site, is_level);
-        }
-    }
-
-    // Law a at all sites, and law b.
-    pub(crate) fn check_all(&mut self) {
-        for site in 0..self.sites {
-            self.check_site(site);
-        }
-        for article in 0..self.articles {
-            self.check_levels(article);
-        }
     }
 }

@@ -1,14 +1,14 @@
 // Lines that belong together: those that have all sites move, and those that bring an article level.
-use crate::line::Offer;
+use crate::offer::Offer;
 use crate::run::{Run, SLOTS};
 use crate::slot::Space;
 use crate::stop::Stop;
-use crate::transaction::Turn;
+use crate::turn::Turn;
 use kind::Kind;
 use trials::Movement;
 
 impl<K: Kind + Drop, J: Kind + Drop> Run<K, J> {
-    // Commits the own transaction, into a slot by chance.
+    // Commits the site's own transaction, into a slot by chance.
     fn commit_own(&mut self, site: u8) -> Result<(), Stop> {
         let slot = self.dice.byte(SLOTS);
         self.commit_line(Turn::own(site), Space::whole(slot))
@@ -62,7 +62,7 @@ impl<K: Kind + Drop, J: Kind + Drop> Run<K, J> {
         self.take_line(offer.peer, slot)
     }
 
-    // For each site the article is passed on, as `way` says from whom and to whom.
+    // Passes the article on once for each site: `way` says from whom to whom.
     fn pass_all<F: Fn(u8) -> Offer>(&mut self, way: F) -> Result<(), Stop>
         requires { F.IsAlwaysCallable way }
     {
@@ -97,8 +97,8 @@ impl<K: Kind + Drop, J: Kind + Drop> Run<K, J> {
         (0..self.sites).try_for_each(|site| self.archive_line(site, article))
     }
 
-    // Brings an article level, as far as the transactions that are open and the histories' room allow: one
-    // site gathers all actions and hands them out, and then each tells all others what it has.
+    // Brings an article level, as far as open transactions and the room in the histories allow: one site, the hub,
+    // gathers all actions and hands them out. Then each site tells all others what it has.
     pub(crate) fn bring_level(&mut self, article: u8) -> Result<(), Stop> {
         let hub = self.dice.byte(self.sites);
         self.pass_all(|site| Offer {

@@ -1,32 +1,41 @@
-// Plays random runs by seed on real tables, and holds them to four laws of whole runs by a book that it
-// keeps itself. The laws are proved of every run; this program is a test beside the proofs, of the compiled
-// tables. Its own functions are proved only to be safe and to end.
+// Plays random runs by seed on real tables, and holds them to four laws of whole runs by a book that it keeps itself
+// (docs/PLAY.md). The laws are proved of every run. This program is a test beside the proofs, of the compiled tables.
+// Its own functions are proved only to be safe and to end.
 //
-// A run cannot meet every refusal: 1 is that of a set-up, 17 that of a history, 18 that of a script, and 8
-// needs a clock near 4,000,000,000, which a run that starts at 0 does not reach. All others are met.
+// A run cannot meet every refusal: 1 is that of a set-up, 17 that of a history, 18 that of a script. 8 needs a clock
+// near 4,000,000,000, which no run reaches, since it starts at 0. All others are met.
 #![tactic(auto)]
 
+mod archive;
 mod book;
+mod breach;
+mod call;
+mod check;
 mod choice;
+mod counts;
+mod course;
 mod due;
 mod forger;
+mod found_interval;
 mod law;
 mod level;
 mod line;
 mod maker;
+mod offer;
 mod outsider;
+mod page;
 mod pick;
-mod report;
 mod run;
 mod seat;
 mod slot;
 mod stop;
+mod take;
 mod transaction;
-mod walk;
+mod turn;
 
-use crate::choice::play_run;
+use crate::counts::Counts;
+use crate::course::play_run;
 use crate::outsider::Stranger;
-use crate::report::Counts;
 use crate::stop::Stop;
 use kind::{Flags, Kind, OnHand, Price};
 use runs::each_movement_counted_once;
@@ -38,12 +47,11 @@ use std::io::Read;
 struct Wish {
     seed: u64,
     runs: u32,
+    // How many lines each run has at least.
     lines: u32,
 }
 
-// A run of one kind; `J` is another one. The outsiders take turns, each when all kinds have had the one
-// before. The runtime stays beside the counts here and below, since a run keeps the counts for itself and
-// gives them back.
+// A run of one kind; `J` is another kind. The strangers take turns: each when all kinds have had the one before.
 fn play_kind<K: Kind + Drop, J: Kind + Drop>(
     rt: &HostRuntime,
     counts: &mut Counts,
@@ -59,8 +67,7 @@ fn play_kind<K: Kind + Drop, J: Kind + Drop>(
     }
 }
 
-// All runs, until one is not as it has to be. The kinds take turns, by the run's number, since no list holds
-// types.
+// All runs, or until a law does not hold. The kinds take turns.
 fn play_all(rt: &HostRuntime, counts: &mut Counts, wish: Wish) -> Result<(), Stop> {
     for run in 0..wish.runs {
         counts.begin(run);
@@ -70,7 +77,7 @@ fn play_all(rt: &HostRuntime, counts: &mut Counts, wish: Wish) -> Result<(), Sto
             _ => play_kind::<Price, OnHand>(rt, counts, run, wish)?,
         }
         if counts.is_broken() {
-            return Err(Stop::Broken);
+            return Err(Stop::Breach);
         }
     }
     Ok(())
@@ -92,8 +99,7 @@ fn print_outcome(rt: &HostRuntime, counts: &Counts, is_whole: bool) -> io::Resul
     println!(rt; "laws hold: a {figures}, b {levels} ({moved_levels} with actions), c {repeats}")
 }
 
-// The number that digits write. A longer one than fits wraps, where `parse` would refuse it: any digits are a
-// seed.
+// The number that digits write, modulo 2⁶⁴, so that any digits are a seed.
 fn number(digits: &[u8]) -> u64 {
     digits.iter().fold(0, |number: u64, digit| {
         let digit = u64::from(digit.wrapping_sub(b'0'));
@@ -101,8 +107,8 @@ fn number(digits: &[u8]) -> u64 {
     })
 }
 
-// Reads what is wanted: a seed, how many runs, and how many lines each has, each a run of digits. What is
-// missing is 0.
+// Reads three numbers: a seed, how many runs, and how many lines each has. Anything but a digit parts them. A number
+// that is missing is 0.
 fn read_wish(rt: &HostRuntime) -> io::Result<Wish> {
     let mut text = [0; 256];
     let length = rt.stdin().read(&mut text)?;
@@ -121,7 +127,7 @@ fn read_wish(rt: &HostRuntime) -> io::Result<Wish> {
 }
 
 fn main(rt: HostRuntime) -> Result<(), Stop> {
-    // The laws of whole runs, for each kind, on the contract of these calls.
+    // The contracts of these calls are the proofs of the laws for each kind (docs/LAWS.md). They do nothing.
     each_movement_counted_once::<OnHand>();
     each_movement_counted_once::<Flags>();
     each_movement_counted_once::<Price>();

@@ -1,10 +1,9 @@
-// New tables for a run, by chance.
 use crate::book::Book;
+use crate::counts::Counts;
 use crate::outsider::{Outsider, Stranger};
-use crate::report::Counts;
 use crate::run::{Run, SLOTS};
 use crate::seat::Seat;
-use crate::slot::Slot;
+use crate::slot::{ROOMY, Slot};
 use crate::stop::Stop;
 use action::Setup;
 use either::{Left, Right};
@@ -14,7 +13,7 @@ use std::alloc::{AllocError, Global};
 use table::Table;
 use trials::Dice;
 
-// What the tables of a run are made by: the memory that they stand in, and the dice that say how.
+// Makes the tables of a run, by chance.
 #[derive(Drop)]
 struct Maker {
     heap: Global,
@@ -22,18 +21,18 @@ struct Maker {
 }
 
 impl Maker {
-    // How many places a history has: in a roomy run many, otherwise none, few, some or many.
-    fn pick_places(&mut self, is_roomy: bool) -> usize {
+    // How many places a history has: in a roomy run as many as may be, otherwise none, few, some or many.
+    fn pick_places(&mut self, is_roomy: bool) -> u8 {
         if is_roomy {
-            return 120;
+            return ROOMY;
         }
         let most = match self.dice.byte(8) {
-            0 => 3,
-            1 | 2 | 3 => 16,
-            4 | 5 => 41,
-            _ => 121,
+            0 => 2,
+            1 | 2 | 3 => 15,
+            4 | 5 => 40,
+            _ => ROOMY,
         };
-        usize::from(self.dice.byte(most))
+        self.dice.byte(most + 1)
     }
 
     // A rack or a strip.
@@ -54,7 +53,7 @@ impl Maker {
         Ok(Seat::new(Table::new(setup, history), places))
     }
 
-    // Two or three sites in half of the runs, since with them more is levelled and archived.
+    // Two or three sites in half of the runs, otherwise up to eight. With few sites more is levelled and archived.
     fn pick_sites(&mut self) -> u8 {
         let more = if self.dice.chance(50) { 2 } else { 7 };
         self.dice.byte(more) + 2
@@ -90,7 +89,7 @@ impl Maker {
         let is_roomy = self.dice.chance(40);
         let mut seats = Vec::new(self.heap);
         for site in 0..sites {
-            let places = self.pick_places(is_roomy);
+            let places = usize::from(self.pick_places(is_roomy));
             let setup = Setup::new(group, sites.into(), site.into(), articles.into())?;
             seats.push(self.make_seat(setup, places)?)?;
         }
@@ -98,7 +97,7 @@ impl Maker {
     }
 }
 
-// The tables of one group, all new, the one outside it, and empty slots.
+// A new run: the tables of one group, the outsider, and empty slots.
 pub(crate) fn make_run<K: Kind + Drop, J: Kind + Drop>(
     heap: Global,
     seed: u64,

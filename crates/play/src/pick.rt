@@ -1,28 +1,20 @@
 // What a line is given, by chance.
 ghost use Rattle.std.specs.Prelude.{◌≤◌};
+ghost use Rattle.play.specs.declared.slot.TheConstants.{SLOT_BYTES};
 
-use crate::outsider::MOST_SITES;
+use crate::outsider::OUTSIDER;
 use crate::run::{Run, SLOTS};
 use crate::slot::{SLOT_BYTES, Space};
+use crate::turn::Holder;
 use kind::Kind;
 use trials::{Dice, Movement};
-
-// Whose ticket a line goes by.
-#[derive(Clone, Copy, PartialEq, Eq)]
-pub(crate) enum Holder {
-    Own,
-    // Another site.
-    Site(u8),
-    // The table outside the group.
-    Outsider,
-}
 
 // A number from 0 to `most`.
 fn up_to(dice: &mut Dice, most: u32) -> i32 {
     i32::try_from(dice.below(most.wrapping_add(1))).unwrap_or(0)
 }
 
-// An amount: up to the limits of the kinds, a single bit, around 0, or anything.
+// An amount: up to a limit of a kind, a single bit, around 0, or anything.
 fn pick_amount(dice: &mut Dice) -> i32 {
     match dice.byte(6) {
         0 => up_to(dice, 99_999_999),
@@ -33,7 +25,8 @@ fn pick_amount(dice: &mut Dice) -> i32 {
     }
 }
 
-// A pair that the kind knows, mostly.
+// A pair of operation and amount: mostly one that the kind knows, and now and then one that it does not know. Where
+// sixteen throws give none such, it is the last one thrown.
 fn pick_pair<K: Kind>(dice: &mut Dice) -> (u8, i32) {
     let knows = !dice.chance(5);
     let mut pair = (1, 1);
@@ -49,9 +42,9 @@ fn pick_pair<K: Kind>(dice: &mut Dice) -> (u8, i32) {
 
 // Any site that a group may have, or the outsider.
 fn pick_other(dice: &mut Dice) -> Holder {
-    let site = dice.byte(MOST_SITES + 1);
-    if site < MOST_SITES {
-        Holder::Site(site)
+    let number = dice.byte(OUTSIDER + 1);
+    if number < OUTSIDER {
+        Holder::Site(number)
     } else {
         Holder::Outsider
     }
@@ -59,7 +52,7 @@ fn pick_other(dice: &mut Dice) -> Holder {
 
 // How many bytes a message may have: mostly a whole slot, or too few for some messages.
 pub(crate) fn pick_most(dice: &mut Dice) -> usize
-    ensures { result ≤ 2048 }
+    ensures { result ≤ SLOT_BYTES }
 {
     if dice.chance(80) {
         SLOT_BYTES
@@ -114,13 +107,13 @@ impl<K: Kind + Drop, J: Kind + Drop> Run<K, J> {
         }
     }
 
-    // One with another ticket than the site's own, where there is one.
+    // A holder by chance; `None` where it has no ticket that the site has to refuse.
     fn pick_wrong(&mut self, site: u8) -> Option<Holder> {
         let holder = pick_other(&mut self.dice);
         self.is_wrong_at(site, holder).then_some(holder)
     }
 
-    // Whose ticket a line at the site goes by: the own one, or now and then a wrong one.
+    // Whose ticket a line at the site goes by: the site's own, or now and then a wrong one.
     pub(crate) fn pick_holder(&mut self, site: u8) -> Option<Holder> {
         let own = self.holds(site).then_some(Holder::Own);
         if self.dice.chance(12) {

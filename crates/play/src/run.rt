@@ -1,7 +1,6 @@
-// One run: the tables of one group, the messages that wait, and the book.
 use crate::book::Book;
+use crate::counts::Counts;
 use crate::outsider::Outsider;
-use crate::report::Counts;
 use crate::seat::Seat;
 use crate::slot::Slot;
 use history::RackOrStrip;
@@ -10,10 +9,11 @@ use std::alloc::{AllocError, Global};
 use table::Table;
 use trials::Dice;
 
-// How many messages wait at a time; an older one is lost when another goes into its slot.
+// How many messages wait at a time. A message is lost when another goes into its slot.
 pub(crate) const SLOTS: u8 = 12;
 
-// `K` is the kind of the sites' tables, and `J` that of the one outside the group.
+// One run: the tables of a group, the messages that wait, and the book. `K` is the kind of the group's tables, and `J`
+// that of the outsider.
 #[derive(Drop)]
 pub(crate) struct Run<K: Kind + Drop, J: Kind + Drop> {
     pub(crate) heap: Global,
@@ -60,8 +60,7 @@ impl<K: Kind + Drop, J: Kind + Drop> Run<K, J> {
         places.saturating_sub(self.book.kept(site))
     }
 
-    // What a table shows; `None` where there is no such table, article or site. A site and an article stay
-    // two numbers here and below, since the one picks the table and the other goes on to it.
+    // What a site's table shows, here and below: `None` where there is no such table, article or site.
     pub(crate) fn clock(&self, site: u8) -> Option<u32> {
         Some(self.table(site)?.clock())
     }
@@ -70,8 +69,8 @@ impl<K: Kind + Drop, J: Kind + Drop> Run<K, J> {
         self.table(site)?.figure(article).ok()
     }
 
-    pub(crate) fn known(&self, site: u8, article: u8, z: u8, q: u8) -> Option<u32> {
-        self.table(site)?.known(article, z, q).ok()
+    pub(crate) fn known(&self, site: u8, article: u8, knower: u8, coordinator: u8) -> Option<u32> {
+        self.table(site)?.known(article, knower, coordinator).ok()
     }
 
     pub(crate) fn open_item(&self, site: u8, article: u8, peer: u8) -> Option<bool> {
@@ -94,8 +93,11 @@ impl<K: Kind + Drop, J: Kind + Drop> Run<K, J> {
         article: u8,
         shown: &mut Vec<Option<i64>>,
     ) -> Result<(), AllocError> {
-        for z in 0..self.sites {
-            shown.extend((0..self.sites).map(|q| self.known(site, article, z, q).map(i64::from)))?;
+        for knower in 0..self.sites {
+            shown.extend((0..self.sites).map(|coordinator| {
+                self.known(site, article, knower, coordinator)
+                    .map(i64::from)
+            }))?;
         }
         Ok(())
     }

@@ -1,84 +1,10 @@
-// A table and the ticket of its open transaction, which cannot be let go: a seat that is let go abandons by
-// it.
-ghost use Rattle.std.specs.Prelude.{◌≡◌, true, Some, None, MatchResult};
+ghost use Rattle.std.specs.Prelude.{◌≡◌, true, Some, None};
 ghost use Rattle.table.specs.Transactions.{holds};
-ghost use Rattle.play.specs.Calls.{Fair};
 
+use crate::call::Call;
 use history::History;
 use kind::Kind;
 use table::{Table, TableFault, Ticket};
-use trials::Movement;
-
-// What a call by a ticket answered, and the ticket where the call did not spend it.
-pub(crate) type Answered<T> = (Result<T, TableFault>, Option<Ticket>);
-
-// A call by a ticket. It is a trait and no closure: the check refuses a bound on a closure that takes a
-// generic table ("cannot state an item with such a type in a bound yet").
-pub(crate) trait Call: Drop {
-    type Answer;
-
-    fn make<K: Kind, H: History>(
-        self,
-        table: &mut Table<K, H>,
-        ticket: Ticket,
-    ) -> Answered<Self::Answer>
-        ensures { Fair K.means table.old ticket result.1 table.new };
-}
-
-// An end of a transaction that is granted spends the ticket, and one that is refused hands it back.
-fn ended<T>(end: Result<T, (TableFault, Ticket)>) -> Answered<T>
-    ensures { MatchResult end (λ _. result.1 ≡ None) (λ e. result.1 ≡ Some e.1) }
-{
-    match end {
-        Ok(done) => (Ok(done), None),
-        Err((fault, ticket)) => (Err(fault), Some(ticket)),
-    }
-}
-
-// Writes, and answers the time.
-#[derive(Drop)]
-pub(crate) struct Write(pub(crate) Movement);
-
-impl Call for Write {
-    type Answer = u32;
-
-    fn make<K: Kind, H: History>(self, table: &mut Table<K, H>, ticket: Ticket) -> Answered<u32> {
-        let Movement {
-            article,
-            operation,
-            amount,
-        } = self.0;
-        let answer = table.write(&ticket, article, operation, amount);
-        (answer, Some(ticket))
-    }
-}
-
-// Commits, and answers how many actions there were, and how many bytes of a message were written.
-#[derive(Drop)]
-pub(crate) struct Commit<'a>(pub(crate) &'a mut [u8]);
-
-impl Call for Commit<'_> {
-    type Answer = (usize, usize);
-
-    fn make<K: Kind, H: History>(
-        self,
-        table: &mut Table<K, H>,
-        ticket: Ticket,
-    ) -> Answered<(usize, usize)> {
-        ended(table.commit(ticket, self.0))
-    }
-}
-
-#[derive(Drop)]
-pub(crate) struct Abandon;
-
-impl Call for Abandon {
-    type Answer = ();
-
-    fn make<K: Kind, H: History>(self, table: &mut Table<K, H>, ticket: Ticket) -> Answered<()> {
-        ended(table.abandon(ticket))
-    }
-}
 
 // Puts a ticket, if there is one, where there is none.
 fn put_back(hand: &mut Option<Ticket>, ticket: Option<Ticket>)
@@ -91,7 +17,8 @@ fn put_back(hand: &mut Option<Ticket>, ticket: Option<Ticket>)
     }
 }
 
-// A table, how many places its history has, and the ticket that it gave out and has not got back.
+// A table, how many places its history has, and the ticket of its open transaction. A ticket cannot be let go, so a
+// seat that is let go abandons by it first.
 pub(crate) struct Seat<K: Kind + Drop, H: History + Drop> {
     table: Table<K, H>,
     pub(crate) places: usize,
@@ -112,7 +39,7 @@ impl<K: Kind + Drop, H: History + Drop> Seat<K, H> {
         &self.table
     }
 
-    // Does it hold a ticket?
+    // Is a transaction open, so that the seat holds its ticket?
     pub(crate) fn holds(&self) -> bool {
         self.ticket.is_some()
     }
@@ -124,7 +51,7 @@ impl<K: Kind + Drop, H: History + Drop> Seat<K, H> {
         Ok(())
     }
 
-    // Makes a call by the own ticket; `None` where there is none.
+    // Makes a call by the own ticket. `None` where there is none.
     pub(crate) fn call<C: Call>(&mut self, call: C) -> Option<Result<C::Answer, TableFault>> {
         let ticket = self.ticket.take()?;
         let (answer, back) = call.make(&mut self.table, ticket);
@@ -132,8 +59,8 @@ impl<K: Kind + Drop, H: History + Drop> Seat<K, H> {
         Some(answer)
     }
 
-    // Makes a call by the ticket of another seat. Where the table spends it, it bore the same numbers as the
-    // own ticket, which goes to the other seat.
+    // Makes a call by the ticket of another seat. `None` where it has none. Where the table spends that ticket, it
+    // noted the same numbers as the own one, which then goes to the other seat.
     pub(crate) fn call_by<J: Kind + Drop, C: Call>(
         &mut self,
         other: &mut Seat<J, H>,

@@ -1,17 +1,25 @@
-// Where messages wait to be taken.
 ghost use Rattle.std.specs.Prelude.{◌≤◌};
+ghost use Rattle.play.specs.declared.slot.TheConstants.{SLOT_BYTES};
 
+use action::{ACTION_BYTES, MOST_SITES};
+use message::{HEADER_BYTES, INTERVAL_BYTES, SECTION_BYTES};
 use std::alloc::{AllocError, Global};
 use std::collections::BTreeSet;
 
-// The longest offer of a history of 120 places, with eight sites, has 11 + 80 + 1,920 bytes.
-pub(crate) const SLOT_BYTES: usize = 2048;
+// The most places that a history has.
+pub(crate) const ROOMY: u8 = 120;
 
-// A place for one message, which is empty at first.
+// The longest message is an offer of all actions of such a history: one section, with an interval for each site.
+pub(crate) const SLOT_BYTES: usize = HEADER_BYTES
+    + SECTION_BYTES
+    + MOST_SITES * INTERVAL_BYTES
+    + ROOMY as usize * ACTION_BYTES;
+
+// Where one message waits. It may be taken any number of times. At first there is none.
 #[derive(Drop)]
 pub(crate) struct Slot {
     message: Vec<u8>,
-    // The sites that have taken this very message.
+    // The sites that have taken this message.
     taken: BTreeSet<u8>,
 }
 
@@ -27,7 +35,7 @@ impl Slot {
         &self.message
     }
 
-    // Holds another message from now on.
+    // From now on this message waits, in place of the one before.
     pub(crate) fn hold(&mut self, message: &[u8]) -> Result<(), AllocError> {
         self.taken.clear();
         self.message.clear();
@@ -49,7 +57,7 @@ impl Slot {
 pub(crate) struct Space {
     pub(crate) slot: u8,
     pub(crate) most: usize,
-    ghost within: { most ≤ 2048 },
+    ghost within: { most ≤ SLOT_BYTES },
 }
 
 impl Space {

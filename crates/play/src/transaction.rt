@@ -1,33 +1,17 @@
-// The lines of transactions: open, write, commit and abandon, by the own ticket or a wrong one.
+// The lines of transactions: open, write, commit and abandon, by the site's own ticket or a wrong one.
+use crate::call::{Abandon, Call, Commit, Write};
+use crate::counts::up;
 use crate::due::Due;
-use crate::pick::Holder;
-use crate::report::{Law, up};
+use crate::law::Law;
 use crate::run::Run;
-use crate::seat::{Abandon, Call, Commit, Write};
 use crate::slot::{SLOT_BYTES, Space};
 use crate::stop::Stop;
+use crate::turn::{Holder, Turn};
 use kind::Kind;
 use table::{MOST_WRITES, TableFault};
 use trials::Movement;
 
-// At which site a call is made, and by whose ticket.
-#[derive(Clone, Copy)]
-pub(crate) struct Turn {
-    pub(crate) site: u8,
-    pub(crate) by: Holder,
-}
-
-impl Turn {
-    // A call by the site's own ticket.
-    pub(crate) fn own(site: u8) -> Turn {
-        Turn {
-            site,
-            by: Holder::Own,
-        }
-    }
-}
-
-// Two different ones of a slice; the library has no `get_disjoint_mut`.
+// Two items of a slice, by their different indices.
 fn pair<T>(items: &mut [T], one: u8, other: u8) -> Option<(&mut T, &mut T)> {
     let (one, other) = (usize::from(one), usize::from(other));
     if one < other {
@@ -41,7 +25,7 @@ fn pair<T>(items: &mut [T], one: u8, other: u8) -> Option<(&mut T, &mut T)> {
 }
 
 impl<K: Kind + Drop, J: Kind + Drop> Run<K, J> {
-    // Makes a call by the ticket whose turn it is; `None` where there is no such ticket.
+    // Makes a call at the site, by the ticket of the holder. `None` where there is no such ticket.
     fn call<C: Call>(&mut self, turn: Turn, call: C) -> Option<Result<C::Answer, TableFault>> {
         let Turn { site, by } = turn;
         match by {
@@ -51,7 +35,6 @@ impl<K: Kind + Drop, J: Kind + Drop> Run<K, J> {
                 seat.call_by(other, call)
             }
             Holder::Outsider => {
-                // Not `seat_mut`, which would borrow the outsider too.
                 let seat = self.seats.get_mut(usize::from(site))?;
                 seat.call_by(&mut self.outsider.seat, call)
             }
@@ -109,7 +92,7 @@ impl<K: Kind + Drop, J: Kind + Drop> Run<K, J> {
         }
     }
 
-    // The commit of a site's transaction is entered; it answered how many actions it had.
+    // Enters a granted commit into the book. `count` is how many actions it answered.
     fn enter_commit(&mut self, site: u8, count: usize) -> Result<(), Stop> {
         let is_all = count == self.book.writes(site);
         self.counts.hold(Law::Answer, site, is_all);

@@ -1,12 +1,15 @@
-// A reading of messages of the program's own, so that its book leans on no reading of the library's.
 ghost use Rattle.std.specs.Prelude.{length};
 ghost use Rattle.std.specs.Iterator.{at_most};
 
+use action::ACTION_BYTES;
+use message::{HEADER_BYTES, INTERVAL_BYTES, SECTION_BYTES};
 use std::alloc::{AllocError, Global};
 
-// An interval of a message, the article that it is about, and where in the message it stands.
+// An interval of a message, with its section's article. It is read by code of the program's own, so that the book does
+// not depend on the library's reader.
 #[derive(Clone, Copy)]
 pub(crate) struct FoundInterval {
+    // The offset at which it begins.
     pub(crate) at: usize,
     pub(crate) article: u8,
     pub(crate) site: u8,
@@ -14,9 +17,10 @@ pub(crate) struct FoundInterval {
     pub(crate) to: u32,
 }
 
-// The records of a message, each with the place where it stands. Its kind byte says how long it is.
+// The records of a message that are left to go over, each with the offset at which it begins.
 #[derive(Drop)]
 struct Records<'a> {
+    // The offset of the first of them.
     at: usize,
     left: &'a [u8],
 }
@@ -24,14 +28,14 @@ struct Records<'a> {
 impl<'a> Iterator for Records<'a> {
     type Item = (usize, &'a [u8]);
 
-    ghost remaining = { λ walk. at_most (length walk.left.now) };
+    ghost remaining = { λ records. at_most (length records.left.now) };
 
     fn next(&mut self) -> Option<(usize, &'a [u8])> {
         let length = match self.left.first()? {
-            b'H' => 6,
-            b'S' => 5,
-            b'I' => 10,
-            b'A' => 16,
+            b'H' => HEADER_BYTES,
+            b'S' => SECTION_BYTES,
+            b'I' => INTERVAL_BYTES,
+            b'A' => ACTION_BYTES,
             _ => return None,
         };
         let (record, left) = self.left.split_at_checked(length)?;
@@ -42,8 +46,8 @@ impl<'a> Iterator for Records<'a> {
     }
 }
 
-// All intervals of a message, from the first to the last.
-pub(crate) fn stretches(heap: Global, bytes: &[u8]) -> Result<Vec<FoundInterval>, AllocError> {
+// All intervals of a message, in its order.
+pub(crate) fn intervals(heap: Global, bytes: &[u8]) -> Result<Vec<FoundInterval>, AllocError> {
     let mut found = Vec::new(heap);
     let mut article = 0;
     for (at, record) in (Records { at: 0, left: bytes }) {
