@@ -77,7 +77,7 @@ fn play_all(rt: &HostRuntime, counts: &mut Counts, wish: Wish) -> Result<(), Sto
             _ => play_kind::<Price, OnHand>(rt, counts, run, wish)?,
         }
         if counts.is_broken() {
-            return Err(Stop::Breach);
+            return Err(Stop::Broken);
         }
     }
     Ok(())

@@ -9,9 +9,9 @@ pub enum Stop {
     Memory,
     // Reading or printing failed.
     Io,
-    Unlawful(UnlawfulSetup),
+    Unlawful,
     // A law does not hold.
-    Breach,
+    Broken,
 }
 
 impl fmt::Display for Stop {
@@ -19,8 +19,8 @@ impl fmt::Display for Stop {
         match self {
             Stop::Memory => f.write_str("there is not enough memory"),
             Stop::Io => f.write_str("reading or printing failed"),
-            Stop::Unlawful(fault) => write!(f, "{fault}"),
-            Stop::Breach => f.write_str("a law does not hold"),
+            Stop::Unlawful => f.write_str("a set-up is outside its limits"),
+            Stop::Broken => f.write_str("a law does not hold"),
         }
     }
 }
@@ -46,7 +46,7 @@ impl From<io::Error> for Stop {
 }
 
 impl From<UnlawfulSetup> for Stop {
-    fn from(fault: UnlawfulSetup) -> Stop {
-        Stop::Unlawful(fault)
+    fn from(_fault: UnlawfulSetup) -> Stop {
+        Stop::Unlawful
     }
 }
