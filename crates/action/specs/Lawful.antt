@@ -5,7 +5,7 @@ use Rattle.action.specs.declared.refusal.Refusal.{Refusal}
 use Rattle.action.specs.declared.setup.Setup.{Setup}
 use Rattle.action.specs.declared.setup.UnlawfulSetup.{UnlawfulSetup}
 
--- a group, its number of sites, the own site and the number of articles
+-- the four numbers of a set-up are within their limits
 pub record Lawful (group sites own articles : ℕ) : Type 0 where
   pub some_group : 1 ≤ group
   pub group_fits : group ≤ 65535
@@ -15,7 +15,7 @@ pub record Lawful (group sites own articles : ℕ) : Type 0 where
   pub some_article : 1 ≤ articles
   pub few_articles : articles ≤ 64
 
--- a refusal of the table's own layer
+-- a refusal of a layer, with its number and its place
 abbrev pub by_table : ℕ → ℕ → Refusal
 by_table number place = record { number = number; place = place; layer = Table }
 

@@ -8,21 +8,24 @@ pub const LATEST_TIME: u32 = 4_000_000_000;
 /// How many bytes an action's record has, in a message and in a strip.
 pub const ACTION_BYTES: usize = 16;
 
-/// A movement of one article, as the site that committed it (its coordinator) wrote it.
+/// One change to one article (docs/RULES.md, section 1).
 #[derive(Clone, Copy, Debug, Default, PartialEq, Eq)]
 pub struct Action {
+    /// The site whose table committed it.
     pub coordinator: u8,
+    /// A number that the coordinator counts on, at least 1. It is no time of day.
     pub time: u32,
     /// The time of the first action of its transaction.
     pub transaction: u32,
     pub article: u8,
     /// What is done, by the number that the table's kind of figure has for it.
     pub operation: u8,
+    /// What it means is up to the operation.
     pub amount: i32,
 }
 
 impl Action {
-    /// Whether the action comes first in the order by which figures are worked (docs/RULES.md, section 3).
+    /// Whether the action comes strictly before the other in the order of actions (docs/RULES.md, section 3).
     pub fn precedes(&self, other: &Action) -> bool
         ensures { result ≡ precedes self.now other.now }
     {
@@ -56,7 +59,7 @@ impl Action {
         ]
     }
 
-    /// The action that a record stands for, whatever its first byte.
+    /// The action that the bytes of a record A stand for. The first byte is not looked at.
     pub fn from_bytes(bytes: &[u8; ACTION_BYTES]) -> Action
         ensures { result ≡ action_of bytes.now }
     {

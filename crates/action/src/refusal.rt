@@ -17,7 +17,7 @@ pub enum Layer {
 #[derive(Clone, Copy, Debug, PartialEq, Eq)]
 pub struct Refusal {
     pub number: u8,
-    /// What the number is about, as a byte's offset or a capacity; 0 where the number says all.
+    /// What the refusal is about, such as the offset of a byte or a capacity; 0 where the number says all.
     pub place: usize,
     pub layer: Layer,
 }
@@ -45,7 +45,7 @@ impl Refusal {
         }
     }
 
-    /// A refusal by a table, or by what uses one.
+    /// A refusal by a table, by a set-up or by a line of a script.
     pub fn by_table(number: u8, place: usize) -> Refusal
         ensures { result ≡ by_table number place }
     {
@@ -69,7 +69,7 @@ impl fmt::Display for Refusal {
 
 impl Error for Refusal {}
 
-// What follows the number in the sentence of a refusal: nothing where the number is not known.
+// What follows the number in the sentence of a refusal; nothing where there is no refusal of that number.
 #[derive(Drop)]
 struct Reason {
     number: u8,

@@ -10,12 +10,15 @@ pub const MOST_SITES: usize = 8;
 /// The most articles that a table may have.
 pub const MOST_ARTICLES: usize = 64;
 
-/// What a table is made for: its group, how many sites and articles that has, and which site is its own.
+/// What a table is made for. No set-up is outside the limits of docs/RULES.md, section 6.
 #[derive(Clone, Copy, Debug, PartialEq, Eq)]
 pub struct Setup {
     pub group: u16,
+    /// How many sites the group has.
     pub sites: u8,
+    /// The site that the table belongs to; the first site is 0.
     pub own: u8,
+    /// How many articles the group has.
     pub articles: u8,
     ghost some_group: { 1 ≤ group },
     ghost group_fits: { group ≤ 65535 },
@@ -29,7 +32,7 @@ pub struct Setup {
 impl Setup {
     ghost use Rattle.action.specs.Lawful.{Made};
 
-    /// Takes any numbers, so that those from outside need no test before. Sites are numbered from 0.
+    /// Takes any numbers, and answers a fault for those outside the limits.
     pub fn new(group: u32, sites: u32, own: u32, articles: u32) -> Result<Setup, UnlawfulSetup>
         ensures { Made group sites own articles result }
     {

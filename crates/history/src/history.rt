@@ -40,5 +40,6 @@ pub trait History {
         ensures list { Removed (items self.old) place result (items self.new) }
         ensures fixed { room self.new ≡ room self.old };
 
+    // No list is longer than its capacity, and no capacity is above `MOST_PLACES`.
     ghost bounded: { (h : Self) → (length (items h) ≤ room h) × (room h ≤ 1024) };
 }

@@ -40,7 +40,7 @@ impl fmt::Display for HistoryFault {
 
 impl Error for HistoryFault {}
 
-// The place has to be in use.
+// Refuses a place that is not in use.
 pub(crate) fn check_place(place: usize, used: usize) -> Result<(), HistoryFault>
     ensures { MatchResult result (λ _. place < used) (λ e. (used ≤ place) × (e ≡ NoPlace place)) }
 {
@@ -51,9 +51,11 @@ pub(crate) fn check_place(place: usize, used: usize) -> Result<(), HistoryFault>
     }
 }
 
-// There has to be room for one more, and its place has to be in use or the first free one.
+// Refuses where there is no room for one more, or where its place is neither in use nor the first free one.
 pub(crate) fn check_insert(place: usize, used: usize, places: usize) -> Result<(), HistoryFault>
-    ensures { MatchResult result (λ _. (place ≤ used) × (used < places)) (λ e. ((places ≤ used) × (e ≡ Full places)) ⊎ ((used < places) × (used < place) × (e ≡ NoPlace place))) }
+    ensures { MatchResult result (λ _. (place ≤ used) × (used < places))
+        (λ e. ((places ≤ used) × (e ≡ Full places))
+        ⊎ ((used < places) × (used < place) × (e ≡ NoPlace place))) }
 {
     if used >= places {
         return Err(HistoryFault::Full(places));

@@ -5,7 +5,7 @@ use crate::history_fault::{HistoryFault, check_insert, check_place};
 use action::Action;
 use std::alloc::{AllocError, Global};
 
-/// A history that keeps actions as they are. It gets its memory when it is made.
+/// A history that keeps each action as an `Action`. It gets all of its memory when it is made.
 #[derive(Drop)]
 pub struct Rack {
     actions: Vec<Action>,

@@ -11,7 +11,7 @@ use either::{Either, for_both};
 /// A rack or a strip, whichever was chosen when it was made.
 pub type RackOrStrip = Either<Rack, Strip>;
 
-// Of two makes of history either is a history.
+// A value that is one of two histories is a history.
 impl<L: History, R: History> History for Either<L, R> {
     ghost items = { either L.items R.items };
 

@@ -6,7 +6,7 @@ use crate::history::{History, MOST_PLACES};
 use crate::history_fault::{HistoryFault, check_insert, check_place};
 use action::{ACTION_BYTES, Action};
 
-/// How many bytes of its memory a strip has for each action: those of the action's record.
+/// How many bytes a strip has for each place: those of an action's record.
 pub const PLACE_BYTES: usize = ACTION_BYTES;
 
 /// A history that keeps actions as the bytes of their records, in memory that it is given.
@@ -18,16 +18,16 @@ pub struct Strip {
     ghost within: { length (strip_items used bytes.items) ≤ places },
     ghost whole: { places ≡ min (vec_len bytes / 16) 1024 },
     ghost few: { places ≤ 1024 },
-    // In each used place a whole record, its first byte too.
+    // Each used place has the whole record of its action, the first byte too.
     ghost recorded: { Recorded used bytes.items },
-    // This holds of any bytes; it stands here so that the proof of each function has it at hand.
+    // As many actions as used places.
     ghost counted: { length (strip_items used bytes.items) ≡ used },
 }
 
 #[tactic(auto, using(crate::proofs::Places::strip_steps))]
 impl Strip {
-    /// An empty strip with room for as many whole records as the memory has, at most `MOST_PLACES`. Bytes after
-    /// the last whole place stay as they are.
+    /// An empty strip with as many places as whole records fit into the memory, at most `MOST_PLACES`. What the
+    /// memory held means nothing. Bytes after the last place are never written.
     pub fn new(memory: Vec<u8>) -> Strip
         ensures empty { strip_items result.used result.bytes.items ≡ [] }
         ensures room { result.places ≡ min (vec_len memory / 16) 1024 }
@@ -54,7 +54,8 @@ impl Strip {
     // Moves the used places from this one on up by one, and writes the action's record here.
     fn put_in(&mut self, place: usize, action: Action)
         requires { (place ≤ self.old.used) × (self.old.used < self.old.places) }
-        ensures items { strip_items self.new.used self.new.bytes.items ≡ insert (strip_items self.old.used self.old.bytes.items) place action }
+        ensures items { strip_items self.new.used self.new.bytes.items
+            ≡ insert (strip_items self.old.used self.old.bytes.items) place action }
         ensures rest { drop (self.new.used * 16) self.new.bytes.items ≡ drop (self.new.used * 16) self.old.bytes.items }
         ensures fixed { self.new.places ≡ self.old.places }
     {
@@ -68,7 +69,8 @@ impl Strip {
     // Moves the used places after this one down by one.
     fn take_out(&mut self, place: usize)
         requires { place < self.old.used }
-        ensures items { strip_items self.new.used self.new.bytes.items ≡ remove (strip_items self.old.used self.old.bytes.items) place }
+        ensures items { strip_items self.new.used self.new.bytes.items
+            ≡ remove (strip_items self.old.used self.old.bytes.items) place }
         ensures rest { drop (self.new.used * 16) self.new.bytes.items ≡ drop (self.new.used * 16) self.old.bytes.items }
         ensures fixed { self.new.places ≡ self.old.places }
     {

@@ -7,13 +7,12 @@ use action::Action;
 /// The actions of a history that are left to go over, in the order of their places.
 #[derive(Drop)]
 pub struct Walk<'a, H> {
-    pub(crate) history: &'a H,
-    pub(crate) place: usize,
+    history: &'a H,
+    place: usize,
 }
 
 impl<'a, H: History> Iterator for Walk<'a, H> {
     ghost use Rattle.std.specs.Iterator.{YieldsFirst, item_count};
-    ghost use Rattle.history.specs.Walks.{left};
 
     type Item = Action;
 

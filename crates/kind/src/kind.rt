@@ -5,28 +5,30 @@ ghost use Rattle.kind.specs.Meaning.{Meaning};
 /// A kind of figure: what an article's figure starts at, and what an action's operation and amount do to it.
 /// docs/RULES.md, section 4, has the kinds, and what the author of another one has to prove.
 pub trait Kind {
-    /// How messages and tickets name the kind.
+    /// The number by which messages and tickets name the kind.
     const NUMBER: u8;
 
     /// The figure of an article before its first action.
     const START: i64;
 
+    // The two constants, as contracts see them.
     ghost NUMBER: { ℕ };
 
     ghost START: { ℤ };
 
+    // What the kind means. Contracts cite nothing else of it.
     ghost means: { Meaning };
 
     /// Whether the kind has a meaning for this operation with this amount.
     fn is_known(operation: u8, amount: i32) -> bool
         ensures { result ≡ means.knows operation amount };
 
-    /// The figure after such an action. An unknown pair leaves it.
+    /// The figure to which this operation with this amount leads. A pair that is not known leaves the figure as it is.
     fn step(figure: i64, operation: u8, amount: i32) -> i64
         ensures { result ≡ means.steps figure operation amount };
 
-    /// Whether the order of actions makes no difference to the figure. A table of such a kind steps its figures on
-    /// where one of another kind works them anew.
+    /// Whether the order of actions makes no difference to the figure. If it makes none, a table steps its figures by
+    /// new actions alone; otherwise it works them anew from their bases.
     fn is_commuting() -> bool
         ensures { result ≡ means.commutes };
 
@@ -50,5 +52,7 @@ pub trait Kind {
     ghost unknown_leaves: { (f : ℤ) (o : ℕ) (a : ℤ) → means.knows o a ≡ false → means.steps f o a ≡ f };
 
     // If the kind says that it commutes, two known pairs lead to the same figure whichever comes first.
-    ghost commute: { (f : ℤ) (o : ℕ) (a : ℤ) (p : ℕ) (b : ℤ) → FitsSigned w64 f → means.commutes ≡ true → means.knows o a ≡ true → means.knows p b ≡ true → means.steps (means.steps f o a) p b ≡ means.steps (means.steps f p b) o a };
+    ghost commute: { (f : ℤ) (o : ℕ) (a : ℤ) (p : ℕ) (b : ℤ) → FitsSigned w64 f → means.commutes ≡ true
+        → means.knows o a ≡ true → means.knows p b ≡ true
+        → means.steps (means.steps f o a) p b ≡ means.steps (means.steps f p b) o a };
 }

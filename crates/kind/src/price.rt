@@ -26,45 +26,6 @@ const HIGHEST: i64 = 99_999_999;
 // The most thousandths of the price that one action may add or take away.
 const MOST_RAISED: i64 = 500;
 
-// What an action does to a price.
-#[derive(Clone, Copy)]
-enum Change {
-    // To so many cents.
-    Set(i64),
-    // By so many thousandths.
-    Raise(i64),
-}
-
-// The change that a pair stands for, if it is a known one.
-fn change_of(operation: u8, amount: i32) -> Option<Change>
-    ensures { MatchOption result (price_knows operation amount ≡ false) (StandsFor operation amount) }
-{
-    let amount = i64::from(amount);
-    match operation {
-        Price::SET if (0..=HIGHEST).contains(&amount) => Some(Change::Set(amount)),
-        Price::RAISE if (-MOST_RAISED..=MOST_RAISED).contains(&amount) => Some(Change::Raise(
-            amount,
-        )),
-        _ => None,
-    }
-}
-
-// The nearest figure that is a price.
-fn held(figure: i64) -> i64
-    ensures { result ≡ held figure }
-{
-    figure.clamp(0, HIGHEST)
-}
-
-// The price with so many thousandths of it added; the fraction is dropped.
-fn raised(figure: i64, thousandths: i64) -> i64
-    requires { (neg_ℤ (pos 500) ≤ℤ thousandths) × (thousandths ≤ℤ pos 500) }
-    ensures { result ≡ raised figure thousandths }
-{
-    let cents = held(figure) * (1000 + thousandths) / 1000;
-    cents.min(HIGHEST)
-}
-
 impl Kind for Price {
     const NUMBER: u8 = 3;
 
@@ -105,4 +66,44 @@ impl Kind for Price {
     fn is_commuting() -> bool {
         false
     }
+}
+
+// What an action does to a price.
+#[derive(Clone, Copy)]
+enum Change {
+    // To so many cents.
+    Set(i64),
+    // By so many thousandths.
+    Raise(i64),
+}
+
+// The change that a pair stands for, if it is a known one.
+fn change_of(operation: u8, amount: i32) -> Option<Change>
+    ensures { MatchOption result (price_knows operation amount ≡ false) (StandsFor operation amount) }
+{
+    let amount = i64::from(amount);
+    match operation {
+        Price::SET if (0..=HIGHEST).contains(&amount) => Some(Change::Set(amount)),
+        Price::RAISE if (-MOST_RAISED..=MOST_RAISED).contains(&amount) => Some(Change::Raise(
+            amount,
+        )),
+        _ => None,
+    }
+}
+
+// The nearest figure that is a price.
+fn held(figure: i64) -> i64
+    ensures { result ≡ held figure }
+{
+    figure.clamp(0, HIGHEST)
+}
+
+// The price nearest to the figure with so many thousandths of it added, at most the highest price. What is left of
+// a cent is dropped.
+fn raised(figure: i64, thousandths: i64) -> i64
+    requires { (neg_ℤ (pos 500) ≤ℤ thousandths) × (thousandths ≤ℤ pos 500) }
+    ensures { result ≡ raised figure thousandths }
+{
+    let cents = held(figure) * (1000 + thousandths) / 1000;
+    cents.min(HIGHEST)
 }
