@@ -28,43 +28,43 @@ use Rattle.message.proofs.Recoding.{whole_back}
 
 -- WHAT IS DECODED
 
--- what a test between a record, or the end, and a flaw tells
-flawed : (b : Bool) (o : Option Record) (f g : UnplacedFault) → cond b (Ok o) (Err f) ≡ Err g → (b ≡ false) × (f ≡ g)
-flawed true o f g h = cc
-flawed false o f g h = (refl, cc)
+-- what a test between a record, or the end, and a fault tells
+faulty : (b : Bool) (o : Option Record) (f g : UnplacedFault) → cond b (Ok o) (Err f) ≡ Err g → (b ≡ false) × (f ≡ g)
+faulty true o f g h = cc
+faulty false o f g h = (refl, cc)
 
-flawless : (b : Bool) (o q : Option Record) (f : UnplacedFault) → cond b (Ok o) (Err f) ≡ Ok q → (b ≡ true) × (o ≡ q)
-flawless true o q f h = (refl, cc)
-flawless false o q f h = cc
+faultless : (b : Bool) (o q : Option Record) (f : UnplacedFault) → cond b (Ok o) (Err f) ≡ Ok q → (b ≡ true) × (o ≡ q)
+faultless true o q f h = (refl, cc)
+faultless false o q f h = cc
 
 module _ (bs : List ℕ) where
   pub finished_told : (d : Due) → decoded d bs ≡ Ok None → (d ≡ Due.End) × (bs ≡ [])
-  finished_told Due.End h = (refl, nil_from_length bs (eqb-true _ _ (flawless _ _ _ _ h).0))
-  finished_told _ h = absurd (not_none _ (sym (flawless _ _ _ _ h).1))
+  finished_told Due.End h = (refl, nil_from_length bs (eqb-true _ _ (faultless _ _ _ _ h).0))
+  finished_told _ h = absurd (not_none _ (sym (faultless _ _ _ _ h).1))
 
-  -- where a record is due, the flaw is that there is none; where the end is due, that bytes follow
-  pub flaw_told : (d : Due) (f : UnplacedFault) → decoded d bs ≡ Err f → (Cut ≡ f) ⊎ ((Trailing ≡ f) × (d ≡ Due.End) × (1 ≤ length bs))
-  flaw_told Due.End f h = let k = flawed _ _ _ _ h in let some : length bs ≡ 0 → ⊥ = eqb-false (length bs) 0 k.0 in inr (k.1, refl, omega arith)
-  flaw_told _ f h = inl (flawed _ _ _ _ h).1
+  -- where a record is due, the fault is that there is none; where the end is due, that bytes follow
+  pub fault_told : (d : Due) (f : UnplacedFault) → decoded d bs ≡ Err f → (Cut ≡ f) ⊎ ((Trailing ≡ f) × (d ≡ Due.End) × (1 ≤ length bs))
+  fault_told Due.End f h = let k = faulty _ _ _ _ h in let some : length bs ≡ 0 → ⊥ = eqb-false (length bs) 0 k.0 in inr (k.1, refl, omega arith)
+  fault_told _ f h = inl (faulty _ _ _ _ h).1
 
   pub cut_told : (d : Due) → decoded d bs ≡ Err Cut → (d ≡ Due.End → ⊥) × ((r : Record) → is_due d r ≡ true → Fitting r → StartsWith bs r → ⊥)
   cut_told d h = (
-    λ is. let z : Trailing ≡ Cut = (flawed _ _ _ _ (ap (λ x. decoded x bs) (sym is) ∙ h)).1 in cc,
+    λ is. let z : Trailing ≡ Cut = (faulty _ _ _ _ (ap (λ x. decoded x bs) (sym is) ∙ h)).1 in cc,
     λ r was fits s. let z : ◌≡◌ {A = Result (Option Record) UnplacedFault} (Ok (Some r)) (Err Cut) = sym (decoded_format s.0 d r was fits) ∙ ap (decoded d) (sym s.1) ∙ h in cc,
   )
 
 -- WHAT THE RULES SAY
 
 -- what the tests of a header tell
-header_flawed : (a b : Bool) (p : Progress) (f : UnplacedFault) → cond a (cond b (Ok p) (Err Broken)) (Err Foreign) ≡ Err f → ((a ≡ false) × (Foreign ≡ f)) ⊎ ((a ≡ true) × (Broken ≡ f))
-header_flawed true true p f h = cc
-header_flawed true false p f h = inr (refl, cc)
-header_flawed false b p f h = inl (refl, cc)
+header_faulty : (a b : Bool) (p : Progress) (f : UnplacedFault) → cond a (cond b (Ok p) (Err Broken)) (Err Foreign) ≡ Err f → ((a ≡ false) × (Foreign ≡ f)) ⊎ ((a ≡ true) × (Broken ≡ f))
+header_faulty true true p f h = cc
+header_faulty true false p f h = inr (refl, cc)
+header_faulty false b p f h = inl (refl, cc)
 
 -- and the test of any other record
-other_flawed : (b : Bool) (p : Progress) (f : UnplacedFault) → cond b (Ok p) (Err Broken) ≡ Err f → Broken ≡ f
-other_flawed true p f h = cc
-other_flawed false p f h = cc
+other_faulty : (b : Bool) (p : Progress) (f : UnplacedFault) → cond b (Ok p) (Err Broken) ≡ Err f → Broken ≡ f
+other_faulty true p f h = cc
+other_faulty false p f h = cc
 
 header_due : (d : Due) (h : Header) → is_due d (RecordKinds.Header h) ≡ true → d ≡ Due.Header
 header_due Due.Header h is = refl
@@ -78,8 +78,8 @@ module _ (kind : Meaning) (setup : Setup) where
         ⊎_elim
         (λ k. inl (k.1, (h, refl, header_due p.due h is, k.0)))
         (λ k. inr (k.1, λ g same. let e : h ≡ g = cc in ap (named kind setup) (sym e) ∙ k.0))
-        (header_flawed (named kind setup h) (lawful_header setup h) (after_header p h) f so)
-    refused_told _ f is so = inr (other_flawed _ _ f so, λ h same. cc)
+        (header_faulty (named kind setup h) (lawful_header setup h) (after_header p h) f so)
+    refused_told _ f is so = inr (other_faulty _ _ f so, λ h same. cc)
 
     -- a step that is refused has one of the four reasons
     pub reason : (at : ℕ) (rest : List ℕ) (why : ReaderFault) → ((i : ℕ) → get_or rest i 0 < 256) → step kind setup p at rest ≡ Err why → ReasonAt kind setup p at rest (shown why)
@@ -104,7 +104,7 @@ module _ (kind : Meaning) (setup : Setup) where
             ⊎_elim
             (λ k. let t = cut_told rest p.due (is ∙ ap Err (sym k)) in cut_at (record { is = why_is Cut f k e; not_ended = t.0; none = t.1 }))
             (λ k. trailing_at (record { is = why_is Trailing f k.0 e; ended = k.1; more = k.2 }))
-            (flaw_told rest p.due f is)
+            (fault_told rest p.due f is)
 
     -- a step that ended had the end due, and no bytes left
     pub ended_told : (at : ℕ) (rest : List ℕ) → step kind setup p at rest ≡ Ok None → (p.due ≡ Due.End) × (rest ≡ [])

@@ -8,7 +8,7 @@ use Rattle.action.specs.declared.refusal.Refusal.{Refusal}
 use Rattle.action.specs.declared.setup.Setup.{Setup}
 use Rattle.kind.specs.Meaning.{Meaning}
 use Rattle.message.specs.declared.reader_fault.UnplacedFault.{UnplacedFault}
-use Rattle.message.specs.declared.reader_fault.UnplacedFault.TheVariants.{Broken as BrokenFlaw, Foreign as ForeignFlaw}
+use Rattle.message.specs.declared.reader_fault.UnplacedFault.TheVariants.{Broken as BrokenFault, Foreign as ForeignFault}
 use Rattle.message.specs.declared.reader_fault.ReaderFault.{ReaderFault}
 use Rattle.message.specs.declared.due.Due.TheVariants as Due
 use Rattle.message.specs.declared.progress.Progress.{Progress}
@@ -103,13 +103,13 @@ module _ (kind : Meaning) (setup : Setup) where
   -- and the other way round
   pub follows_admitted : (p : Progress) (before : List Record) (r : Record) → Tells p before → Ours kind setup r → Keeps kind setup before r → (q : Progress) × (admitted kind setup p r ≡ Ok q)
   follows_admitted p before (RecordKinds.Header h) t ours keeps =
-      (after_header p h, cond-true (named kind setup h) (cond (lawful_header setup h) (Ok (after_header p h)) (Err BrokenFlaw)) (Err ForeignFlaw) (names_pass kind setup h ours) ∙ cond-true (lawful_header setup h) (Ok (after_header p h)) (Err BrokenFlaw) (header_passes setup h keeps))
+      (after_header p h, cond-true (named kind setup h) (cond (lawful_header setup h) (Ok (after_header p h)) (Err BrokenFault)) (Err ForeignFault) (names_pass kind setup h ours) ∙ cond-true (lawful_header setup h) (Ok (after_header p h)) (Err BrokenFault) (header_passes setup h keeps))
   follows_admitted p before (RecordKinds.Section s) t ours keeps =
       let passes = head_passes setup p s (record { least = (t.told.articles s.article).1 keeps.rising; listed = keeps.listed; some = keeps.some; few = keeps.few }) in
-      (after_section p s, cond-true (lawful_section setup p s) (Ok (after_section p s)) (Err BrokenFlaw) passes)
+      (after_section p s, cond-true (lawful_section setup p s) (Ok (after_section p s)) (Err BrokenFault) passes)
   follows_admitted p before (RecordKinds.Interval i) t ours keeps =
       let passes = interval_passes setup p i keeps.lawful ((t.told.sites i.site).1 keeps.rising) in
-      (after_interval p i, cond-true (lawful_interval setup p i) (Ok (after_interval p i)) (Err BrokenFlaw) passes)
+      (after_interval p i, cond-true (lawful_interval setup p i) (Ok (after_interval p i)) (Err BrokenFault) passes)
   follows_admitted p before (RecordKinds.Action x) t ours keeps =
       let some : 1 ≤ x.time = omega (arith, keeps.begun, keeps.in_turn) in
       let fair : Fair kind p.article p.spans x = record {
@@ -120,7 +120,7 @@ module _ (kind : Meaning) (setup : Setup) where
         known = keeps.known;
       } in
       let passes = action_passes kind p x fair ((t.told.last x some).1 keeps.ordered) in
-      (after_action p x, cond-true (lawful_action kind p x) (Ok (after_action p x)) (Err BrokenFlaw) passes)
+      (after_action p x, cond-true (lawful_action kind p x) (Ok (after_action p x)) (Err BrokenFault) passes)
 
   -- LISTS
 

@@ -67,7 +67,7 @@ few_actions [] = omega arith
 few_actions (RecordKinds.Action _ ∷ rs) = omega (arith, few_actions rs)
 few_actions (_ ∷ rs) = omega (arith, few_actions rs)
 
-pub few_stretches : (at a : ℕ) (rs : List Record) → length (found_intervals_among a (placed at rs)) ≤ length rs
-few_stretches at a [] = omega arith
-few_stretches at a (RecordKinds.Interval _ ∷ rs) = omega (arith, few_stretches (at + 10) a rs)
-few_stretches at a (r ∷ rs) = omega (arith, few_stretches (at + length (record_bytes r)) (article_after a r) rs)
+pub few_found_intervals : (at a : ℕ) (rs : List Record) → length (found_intervals_among a (placed at rs)) ≤ length rs
+few_found_intervals at a [] = omega arith
+few_found_intervals at a (RecordKinds.Interval _ ∷ rs) = omega (arith, few_found_intervals (at + 10) a rs)
+few_found_intervals at a (r ∷ rs) = omega (arith, few_found_intervals (at + length (record_bytes r)) (article_after a r) rs)

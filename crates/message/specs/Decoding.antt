@@ -29,7 +29,7 @@ section_in bs = record { article = slice_index bs 1; intervals = slice_index bs 
 abbrev pub interval_in : List ℕ → Interval
 interval_in bs = record { site = slice_index bs 1; from = number4 bs 2; to = number4 bs 6 }
 
--- the record that is due, if it is there whole; or the end, if that is due and there; or else the flaw
+-- the record that is due, if it is there whole; or the end, if that is due and there; or else the fault
 abbrev pub decoded : Due → List ℕ → Result (Option Record) UnplacedFault
 decoded Due.Header bs = cond (begins 0x48 6 bs) (Ok (Some (RecordKinds.Header (header_in bs)))) (Err Cut)
 decoded Due.Section bs = cond (begins 0x53 5 bs) (Ok (Some (RecordKinds.Section (section_in bs)))) (Err Cut)

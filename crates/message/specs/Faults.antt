@@ -1,4 +1,4 @@
--- A reader's fault: from a flaw and its place, and as number, place and layer. Assumes nothing.
+-- A reader's fault: from one without its place, and as number, place and layer. Assumes nothing.
 use Rattle.std.specs.Prelude.{ℕ}
 use Rattle.action.specs.declared.refusal.Refusal.{Refusal}
 use Rattle.action.specs.Lawful.{by_reader}

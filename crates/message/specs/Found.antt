@@ -22,14 +22,15 @@ found_from bytes at = placed at (records_in (drop at bytes))
 abbrev pub found_in : List ℕ → List FoundRecord
 found_in bytes = placed 0 (records_in bytes)
 
-abbrev pub stretch_of : ℕ → ℕ → Option Interval → Option FoundInterval
-stretch_of at a None = None
-stretch_of at a (Some i) = Some (record { offset = at; article = a; interval = i })
+-- the interval, if there is one, with its place and its article
+abbrev pub found_interval_of : ℕ → ℕ → Option Interval → Option FoundInterval
+found_interval_of at a None = None
+found_interval_of at a (Some i) = Some (record { offset = at; article = a; interval = i })
 
 -- the intervals among them, where article a is the one that the first is about
 abbrev pub found_intervals_among : ℕ → List FoundRecord → List FoundInterval
 found_intervals_among a [] = []
-found_intervals_among a (f ∷ fs) = cons_option (stretch_of f.offset a (its_interval f.«record»)) (found_intervals_among (article_after a f.«record») fs)
+found_intervals_among a (f ∷ fs) = cons_option (found_interval_of f.offset a (its_interval f.«record»)) (found_intervals_among (article_after a f.«record») fs)
 
 abbrev pub found_intervals_in : List ℕ → List FoundInterval
 found_intervals_in bytes = found_intervals_among 0 (found_in bytes)

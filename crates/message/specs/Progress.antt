@@ -22,7 +22,7 @@ no_span = record { from = 0; to = 0 }
 abbrev pub no_spans : List TimeSpan
 no_spans = replicate 8 no_span
 
--- stands before the first action of a section
+-- stands for the last action where a section has none so far
 abbrev pub no_action : Action
 no_action = record { coordinator = 0; time = 0; transaction = 0; article = 0; operation = 0; amount = pos 0 }
 
@@ -124,7 +124,7 @@ admitted kind setup p (RecordKinds.Section s) = cond (lawful_section setup p s) 
 admitted kind setup p (RecordKinds.Interval i) = cond (lawful_interval setup p i) (Ok (after_interval p i)) (Err Broken)
 admitted kind setup p (RecordKinds.Action x) = cond (lawful_action kind p x) (Ok (after_action p x)) (Err Broken)
 
--- going on by a record: to the progress after it, or nowhere, with the flaw
+-- going on by a record: to the progress after it, or nowhere, with the fault
 abbrev pub Admits : Meaning → Setup → Progress → Record → Result (Unit {0}) UnplacedFault → Progress → Type 0
 Admits kind setup p r (Ok _) q = admitted kind setup p r ≡ Ok q
 Admits kind setup p r (Err f) q = (admitted kind setup p r ≡ Err f) × (q ≡ p)

@@ -6,9 +6,9 @@ use crate::reader_fault::UnplacedFault;
 use crate::record::{Header, Interval, Record, SectionHead};
 use action::Action;
 
-/// What is due next in a message.
-#[derive(Clone, Copy, Debug, PartialEq, Eq)]
-pub enum Due {
+// What is due next in a message.
+#[derive(Clone, Copy)]
+pub(crate) enum Due {
     Header,
     Section,
     Interval,
@@ -31,7 +31,7 @@ pub(crate) fn due_after(intervals: u8, actions: u16, sections: u8) -> Due
     }
 }
 
-// The record that the bytes begin with, if it is the one due; `None` where the end is due and there are no bytes.
+// The record that the bytes begin with, if its kind is due; `None` where the end is due and there are no bytes.
 // It is inlined, so that a record is not written to memory and read back.
 #[inline(always)]
 pub(crate) fn decode(due: Due, bytes: &[u8]) -> Result<Option<Record>, UnplacedFault>

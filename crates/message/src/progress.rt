@@ -8,35 +8,35 @@ use crate::record::{Header, Interval, Record, SectionHead};
 use action::{Action, LATEST_TIME, MOST_SITES, Setup};
 use kind::Kind;
 
-/// The times of an interval: later than `from` and not later than `to`. Where the two are equal there are none.
-#[derive(Clone, Copy, Debug, Default, PartialEq, Eq)]
-pub struct TimeSpan {
-    pub from: u32,
-    pub to: u32,
+// The times of an interval: later than `from` and not later than `to`. Where the two are equal there are none.
+#[derive(Clone, Copy, Default)]
+struct TimeSpan {
+    from: u32,
+    to: u32,
 }
 
-/// How far a message has been read, and what the field rules for its next record need of the records before.
+// How far a message has been read, and what the field rules for its next record need of the records before.
 #[derive(Clone, Copy)]
-pub struct Progress {
-    pub due: Due,
-    /// How many sections are to come, and how many intervals and actions of the present one.
-    pub sections: u8,
-    pub intervals: u8,
-    pub actions: u16,
-    /// The present section's article, and the least that the next section may have.
-    pub article: u8,
-    pub next_article: u8,
-    /// The least site that the section's next interval may have.
-    pub next_site: u8,
-    /// By site: the times of the section's intervals so far.
-    pub spans: [TimeSpan; MOST_SITES],
-    /// The section's last action; before the first one, an action at time 0.
-    pub last: Action,
+pub(crate) struct Progress {
+    pub(crate) due: Due,
+    // How many sections are to come, and how many intervals and actions of the present section.
+    sections: u8,
+    intervals: u8,
+    actions: u16,
+    // The present section's article, and the least that the next section may have.
+    article: u8,
+    next_article: u8,
+    // The least site that the section's next interval may have.
+    next_site: u8,
+    // By site: the times of the section's intervals so far.
+    spans: [TimeSpan; MOST_SITES],
+    // The section's last action; before the first one, an action at time 0.
+    last: Action,
 }
 
 impl Progress {
-    /// Nothing read yet: the header is due.
-    pub fn start() -> Progress
+    // Nothing has been read yet: the header is due.
+    pub(crate) fn start() -> Progress
         ensures { result ≡ start }
     {
         Progress {
@@ -156,7 +156,7 @@ impl Progress {
         Ok(())
     }
 
-    // Goes on by a record; where a field rule refuses it nothing changes.
+    // Goes on by a record. If that is refused, the progress stays as it is.
     pub(crate) fn admit<K: Kind>(
         &mut self,
         setup: &Setup,

@@ -19,11 +19,12 @@ use std::marker::PhantomData;
 /// Reads bytes as a message for a table of one kind, record by record (docs/MESSAGES.md, section 7).
 #[derive(Drop)]
 pub struct Reader<'a, K: Kind> {
-    pub(crate) setup: Setup,
-    pub(crate) bytes: &'a [u8],
-    pub(crate) at: usize,
-    pub(crate) progress: Progress,
-    pub(crate) kind: PhantomData<K>,
+    setup: Setup,
+    bytes: &'a [u8],
+    // The offset of the record that is due.
+    at: usize,
+    progress: Progress,
+    kind: PhantomData<K>,
     ghost within: { at ≤ length bytes.now },
 }
 
@@ -47,9 +48,10 @@ impl<'a, K: Kind> Reader<'a, K> {
     }
 
     /// The next record, or `None` once the bytes have ended as a whole message.
-    /// At a fault the reader stays, and answers that fault each time.
+    /// After a fault it answers the same fault each time.
     pub fn next(&mut self) -> Result<Option<FoundRecord>, ReaderFault>
-        ensures does { Next K.means self.old.setup self.old.progress self.old.at self.old.bytes.now result self.new.progress self.new.at }
+        ensures does { Next K.means self.old.setup self.old.progress self.old.at self.old.bytes.now result
+            self.new.progress self.new.at }
         ensures setup { self.new.setup ≡ self.old.setup }
         ensures bytes { self.new.bytes.now ≡ self.old.bytes.now }
     {
@@ -85,8 +87,8 @@ fn scan<K: Kind>(setup: Setup, bytes: &[u8]) -> Result<usize, ReaderFault>
     Ok(actions)
 }
 
-/// Reads all bytes as one message for tables of this set-up and kind. Answers how many actions it carries.
-/// Which site of the set-up is the own one makes no difference.
+/// Reads all the bytes as one message for a table of this kind and set-up, and answers how many actions it carries
+/// (docs/MESSAGES.md, section 7). Which site of the set-up is the own one makes no difference.
 pub fn check<K: Kind>(setup: Setup, bytes: &[u8]) -> Result<usize, ReaderFault>
     ensures accepted { Accepted K.means setup bytes.now result }
     ensures accepts { Accepts K.means setup bytes.now result }

@@ -18,7 +18,7 @@ pub enum ReaderFault {
     Trailing(usize),
 }
 
-// A fault of the next bytes, before it is said where in the message these stand.
+// A reader's fault without its offset.
 #[derive(Clone, Copy)]
 pub(crate) enum UnplacedFault {
     Cut,
@@ -28,7 +28,7 @@ pub(crate) enum UnplacedFault {
 }
 
 impl UnplacedFault {
-    // The fault of bytes that stand at this place.
+    // The fault at an offset.
     pub(crate) fn at(self, place: usize) -> ReaderFault
         ensures { result ≡ fault_at place self }
     {

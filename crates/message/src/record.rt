@@ -31,14 +31,14 @@ pub struct Header {
 }
 
 impl Header {
-    pub(crate) fn to_bytes(&self) -> [u8; HEADER_BYTES]
+    fn to_bytes(&self) -> [u8; HEADER_BYTES]
         ensures { result ≡ header_bytes self.now }
     {
         let [g1, g0] = self.group.to_be_bytes();
         [b'H', g1, g0, self.kind, self.sender, self.sections]
     }
 
-    // Whether it names the group and the kind that it is read for.
+    // Does it name the group and the kind that the message is read for?
     pub(crate) fn is_named<K: Kind>(&self, setup: &Setup) -> bool
         ensures { result ≡ named K.means setup.now self.now }
     {
@@ -63,7 +63,7 @@ pub struct SectionHead {
 }
 
 impl SectionHead {
-    pub(crate) fn to_bytes(&self) -> [u8; SECTION_BYTES]
+    fn to_bytes(&self) -> [u8; SECTION_BYTES]
         ensures { result ≡ section_bytes self.now }
     {
         let [a1, a0] = self.actions.to_be_bytes();
@@ -71,8 +71,8 @@ impl SectionHead {
     }
 }
 
-/// The promise of a section about one site (record I): none of the site's actions on the section's article
-/// that are later than `from` and not later than `to` is left out.
+/// What a section promises of one site (record I): the section has all of the site's actions on its article that
+/// are later than `from` and not later than `to`.
 #[derive(Clone, Copy, Debug, PartialEq, Eq)]
 pub struct Interval {
     pub site: u8,
@@ -81,7 +81,7 @@ pub struct Interval {
 }
 
 impl Interval {
-    pub(crate) fn to_bytes(&self) -> [u8; INTERVAL_BYTES]
+    fn to_bytes(&self) -> [u8; INTERVAL_BYTES]
         ensures { result ≡ interval_bytes self.now }
     {
         let [f3, f2, f1, f0] = self.from.to_be_bytes();

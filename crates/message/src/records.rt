@@ -19,16 +19,16 @@ pub struct FoundRecord {
     pub record: Record,
 }
 
-// The record that begins at an offset of the bytes, whatever its kind; `None` where none does.
+// The record that begins at an offset of the bytes, whatever kind it has; `None` where none begins.
 #[inline(always)]
-pub(crate) fn record_at(bytes: &[u8], at: usize) -> Option<Record>
+fn record_at(bytes: &[u8], at: usize) -> Option<Record>
     ensures value { result ≡ record_in (drop at bytes.now) }
     ensures fits { at ≤ length bytes.now → at + size_of result ≤ length bytes.now }
 {
     first_record(bytes.get(at..)?)
 }
 
-// The record that the bytes begin with.
+// The record that the bytes begin with, whatever kind it has; `None` where they begin with none.
 #[inline(always)]
 fn first_record(bytes: &[u8]) -> Option<Record>
     ensures value { result ≡ record_in bytes.now }
@@ -44,15 +44,14 @@ fn first_record(bytes: &[u8]) -> Option<Record>
     decode(due, bytes).ok().flatten()
 }
 
-// The records of a message, one after another; of any other bytes, those up to where none begins. Intervals and
-// actions are looked for among them.
+// The records of a message that are left to go over. Of bytes that are no message, those before the first place at
+// which no record begins. `Intervals` and `Actions` look among them.
 //
-// Each `next` is inlined, as decoding is, so that a record is not written to memory and read back.
+// The `next` of all three is inlined, as `decode` is, so that a record is not written to memory and read back.
 //
-// The clause `runs` of each `new` is a law of iterators that are seen as the list of what they have left. It says
-// nothing of the bytes, and stands there so that the proof of a caller's chain has it at hand.
+// The clause `runs` of their `new` is a law of iterators that are seen as the list of what they have left.
 #[derive(Drop)]
-pub struct Records<'a> {
+pub(crate) struct Records<'a> {
     bytes: &'a [u8],
     at: usize,
 }
@@ -66,8 +65,8 @@ impl<'a> Model for Records<'a> {
 }
 
 impl<'a> Records<'a> {
-    // From the first record on.
-    pub fn new(bytes: &'a [u8]) -> Records<'a>
+    // From the first record of the message on.
+    pub(crate) fn new(bytes: &'a [u8]) -> Records<'a>
         ensures left { result ≡ found_in bytes.now }
         ensures reads_back { (m : Message) → IsMessage bytes.now m → result ≡ placed 0 (records m) }
         ensures few { length result ≤ length bytes.now }
@@ -93,7 +92,7 @@ impl<'a> Iterator for Records<'a> {
     }
 }
 
-/// Which site sent the message; 0 where the bytes begin with no header.
+/// The site that wrote the message; 0 where the bytes begin with no header.
 pub fn sender_of(bytes: &[u8]) -> u8
     ensures value { result ≡ its_sender (record_in bytes.now) }
     ensures reads_back { (m : Message) → IsMessage bytes.now m → result ≡ m.sender }

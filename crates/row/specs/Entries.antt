@@ -25,7 +25,7 @@ entry_in rows a z q = at (get_or rows a no_row).known z q
 abbrev pub raised : List (List ℕ) → ℕ → ℕ → ℕ → List (List ℕ)
 raised known z q to = slice_set known z (slice_set (slice_index_or known z []) q (max (at known z q) to))
 
--- each row by its article
+-- each row changed by f, which is given the row's article; that of the first row is a
 abbrev pub each_row : (ℕ → Row → Row) → ℕ → List Row → List Row
 each_row f a [] = []
 each_row f a (r ∷ rs) = f a r ∷ each_row f (suc a) rs

@@ -168,7 +168,7 @@ impl Ledger {
     }
 
     // Is the action later than what the table has of its coordinator?
-    pub(crate) fn is_new(&self, action: &Action) -> bool
+    fn is_new(&self, action: &Action) -> bool
         ensures { result ≡ is_new_in self.now.rows self.now.setup.own action.now }
     {
         self.entry(action.article, self.setup.own, action.coordinator) < action.time
@@ -250,7 +250,7 @@ impl Ledger {
     }
 
     // Works every kept figure anew, from its base by the history.
-    pub(crate) fn rework<K: Kind, H: History>(&mut self, history: &H)
+    fn rework<K: Kind, H: History>(&mut self, history: &H)
         ensures rows { self.new.rows ≡ reworked_rows K.means.steps self.old.rows (H.items history.now) }
         ensures fixed { self.new.setup ≡ self.old.setup }
     {
@@ -272,7 +272,7 @@ impl Ledger {
     }
 
     // Steps the kept figure of the action's article.
-    pub(crate) fn step<K: Kind>(&mut self, action: &Action)
+    fn step<K: Kind>(&mut self, action: &Action)
         ensures rows { self.new.rows ≡ on_row (stepped_row K.means.steps) self.old.rows action.now }
         ensures fixed { self.new.setup ≡ self.old.setup }
     {
@@ -280,7 +280,7 @@ impl Ledger {
     }
 
     // Changes the row of an article, where there is one.
-    pub(crate) fn on_row<F: FnOnce(&mut Row)>(&mut self, article: u8, change: F)
+    fn on_row<F: FnOnce(&mut Row)>(&mut self, article: u8, change: F)
         requires { F.IsAlwaysCallable change }
         ensures rows { (f : ARow → ARow) → ((r s : ARow) → FnOnceReturnsAtMut F.FnOnce change r tt s → s ≡ f r)
             → self.new.rows ≡ changed_row f self.old.rows article }

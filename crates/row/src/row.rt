@@ -12,8 +12,8 @@ pub struct Row {
     pub base: i64,
     /// The figure with these actions too.
     pub kept: i64,
-    /// The known entries (docs/RULES.md, section 1), by the knower and then by the coordinator.
-    pub known: [[u32; MOST_SITES]; MOST_SITES],
+    // The known entries (docs/RULES.md, section 1), by the knower and then by the coordinator.
+    pub(crate) known: [[u32; MOST_SITES]; MOST_SITES],
 }
 
 impl Row {

@@ -10,8 +10,8 @@ use kind::Kind;
 use row::move_actions;
 
 impl<K: Kind, H: History> Table<K, H> {
-    /// Moves an article's actions up to the least of its known entries, which every site is known to have, from the
-    /// history into the base. Answers how many they were (docs/RULES.md, section 13).
+    /// Moves an article's actions up to the least of its known entries from the history into the base. Answers how
+    /// many they were. Every site is known to have them (docs/RULES.md, section 13).
     pub fn archive(&mut self, article: u8) -> Result<usize, TableFault>
         ensures does { Archived K.means self.old article result self.new }
         ensures sound { Sound K.means self.new }
@@ -29,7 +29,7 @@ impl<H: History> Store<H> {
         Ok(self.move_to_base::<K>(article))
     }
 
-    // Moves the actions that are archived, and answers how many they were.
+    // Moves the article's actions up to the least of its known entries into its base, and answers how many they were.
     fn move_to_base<K: Kind>(&mut self, article: u8) -> usize
         requires { article < 64 }
         ensures count { result ≡ length (olds self.old article) }

@@ -56,7 +56,7 @@ impl<H: History> Store<H> {
         Ok((writes, length))
     }
 
-    // Records the pending actions, and ends the transaction.
+    // Puts the pending actions into the history, with all that this changes, and ends the transaction.
     fn post<K: Kind>(&mut self)
         requires sound { Sound K.means self.old }
         requires room { length self.old.history + length self.old.pending ≤ self.old.capacity }

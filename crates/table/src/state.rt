@@ -22,13 +22,13 @@ pub const MOST_WRITES: usize = 16;
 // The pending actions of an open transaction.
 pub(crate) type Pending = ArrayVec<Action, MOST_WRITES>;
 
-/// What a table keeps besides its history.
+// What a table keeps besides its history.
 #[derive(Drop)]
-pub struct State {
-    pub ledger: Ledger,
-    pub clock: u32,
-    /// The pending actions of the open transaction; `None` where none is open.
-    pub transaction: Option<Pending>,
+pub(crate) struct State {
+    pub(crate) ledger: Ledger,
+    pub(crate) clock: u32,
+    // The pending actions of the open transaction; `None` where none is open.
+    pub(crate) transaction: Option<Pending>,
 }
 
 impl State {

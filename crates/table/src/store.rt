@@ -5,10 +5,10 @@ use crate::state::State;
 use history::{History, HistoryFault};
 use std::marker::Model;
 
-/// A table's state and its history, which contracts see as one `View`.
-/// What holds of every table (`Sound`) need not hold of a store while a call is at work on it.
+// A table's state and its history, which contracts see as one `View`.
+// What holds of every table (`Sound`) need not hold of a store while a call is at work on it.
 #[derive(Drop)]
-pub struct Store<H: History> {
+pub(crate) struct Store<H: History> {
     pub(crate) state: State,
     pub(crate) history: H,
 }

@@ -17,7 +17,7 @@ use std::marker::{Model, PhantomData};
 #[derive(Drop)]
 pub struct Table<K: Kind, H: History> {
     pub(crate) store: Store<H>,
-    pub(crate) kind: PhantomData<K>,
+    kind: PhantomData<K>,
 }
 
 impl<K: Kind, H: History> Model for Table<K, H> {

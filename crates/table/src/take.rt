@@ -44,8 +44,8 @@ impl<H: History> Store<H> {
         Ok(new)
     }
 
-    // Records what a message carries, of which so many actions are new. These go into the history before the known
-    // entries are raised, since what is new is judged by the entries as they were. If none is new, the figures stay.
+    // Takes in a message of which so many actions are new. These go into the history before the known entries are
+    // raised, since what is new is judged by the entries as they were. If none is new, the figures stay.
     fn absorb<K: Kind>(&mut self, bytes: &[u8], new: usize)
         requires sound { Sound K.means self.old }
         requires counted { new ≡ length (new_actions self.old.rows self.old.setup.own bytes.now) }

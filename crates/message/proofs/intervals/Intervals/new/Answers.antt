@@ -2,7 +2,7 @@ use Rattle.std.proofs.Common.{map, length, ap, ◌∙◌, arith}
 use Rattle.message.specs.Found.{found_intervals_among, told}
 use Rattle.message.specs.Walks.{records_in}
 use Rattle.message.proofs.ReadingBack.{intervals_back}
-use Rattle.message.proofs.Yields.{few_records, few_stretches, takes_runs, told_placed}
+use Rattle.message.proofs.Yields.{few_records, few_found_intervals, takes_runs, told_placed}
 use Rattle.message.proofs.intervals.Intervals.new.Goals as goal
 
 pub returns-clause-told : goal.returns-clause-told
@@ -17,7 +17,7 @@ returns-clause-places c = λ m is. ap (found_intervals_among 0) (c.new.ensures.r
 pub returns-clause-few : goal.returns-clause-few
 returns-clause-few c =
     let bytes = c.args.bytes.now in
-    omega (arith, ap (λ l. length (found_intervals_among 0 l)) c.new.ensures.left, few_stretches 0 0 (records_in bytes), few_records bytes)
+    omega (arith, ap (λ l. length (found_intervals_among 0 l)) c.new.ensures.left, few_found_intervals 0 0 (records_in bytes), few_records bytes)
 
 pub returns-clause-runs : goal.returns-clause-runs
 returns-clause-runs c = takes_runs
