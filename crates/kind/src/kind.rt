@@ -11,12 +11,12 @@ pub trait Kind {
     /// The figure of an article before its first action.
     const START: i64;
 
-    // The two constants, as contracts see them.
+    // The two constants, as the laws below speak of them.
     ghost NUMBER: { ℕ };
 
     ghost START: { ℤ };
 
-    // What the kind means. Contracts cite nothing else of it.
+    // What the kind means, as all contracts speak of it.
     ghost means: { Meaning };
 
     /// Whether the kind has a meaning for this operation with this amount.
