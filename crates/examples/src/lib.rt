@@ -18,7 +18,7 @@ use kind::{Flags, Kind, OnHand, Price};
 #[cfg(test)]
 mod tests;
 
-/// Whether the examples of figures and of the order come out as expected: they do, as the contract says.
+/// Works the examples of figures and of the order, and answers whether all come out as expected.
 pub fn examples_hold() -> bool
     ensures code { result ≡ true }
 

@@ -24,7 +24,7 @@ const POSTED: [u8; MESSAGE_BYTES] = [
     0, 0, 1, 0, 1, 0x00, 0x00, 0x03, 0xe8,
 ];
 
-// The same message with an amount of 1,000,001, which no known pair has.
+// The same message with an amount of 1,000,001, which is too large for on hand.
 const TOO_LARGE: [u8; MESSAGE_BYTES] = [
     b'H', 0, 1, 1, 0, 1, b'S', 0, 1, 0, 1, b'I', 0, 0, 0, 0, 0, 0, 0, 0, 1, b'A', 0, 0, 0, 0, 1, 0,
     0, 0, 1, 0, 1, 0x00, 0x0f, 0x42, 0x41,

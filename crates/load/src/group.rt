@@ -7,7 +7,7 @@ use std::alloc::{AllocError, Global};
 use table::TableFault;
 use trials::{Dice, Made};
 
-// How many messages wait at a time.
+// How many messages can wait at a time.
 pub(crate) const SLOTS: u8 = 64;
 
 // Eight sites, and the network between them, which loses, repeats and misdirects messages.
@@ -40,7 +40,7 @@ impl<K: Posted + Drop, H: History + Drop> Group<K, H> {
         self.counts
     }
 
-    // Sends a message to a site: it is lost, or has to wait once or twice.
+    // Sends a message to a site: it is lost, or put into a slot, now and then into two.
     pub(crate) fn send(&mut self, message: &[u8], site: u8) -> Result<(), AllocError> {
         if self.dice.chance(25) {
             up(&mut self.counts.lost);

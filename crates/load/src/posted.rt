@@ -1,13 +1,13 @@
 use kind::{Flags, Kind, OnHand, Price};
 use trials::Dice;
 
-// A kind of figure for which what is posted can be drawn by chance.
+// A kind of figure that draws by chance what a site posts.
 pub trait Posted: Kind {
     // A pair of operation and amount that the kind knows.
     fn pair(dice: &mut Dice) -> (u8, i32);
 }
 
-// A number below `n`, signed.
+// A number below `n`, as an `i32`.
 fn below(dice: &mut Dice, n: u32) -> i32 {
     i32::try_from(dice.below(n)).unwrap_or(0)
 }

@@ -59,7 +59,7 @@ impl<K: Posted + Drop, H: History + Drop> Site<K, H> {
         }
     }
 
-    // The movements of a turn, of which only so many count.
+    // The movements of a turn: the first `count`. The others are not used.
     fn movements(&mut self, dice: &mut Dice, count: usize) -> [Movement; WRITES] {
         let mut movements = [Movement::default(); WRITES];
         for movement in movements.iter_mut().take(count) {

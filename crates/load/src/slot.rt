@@ -1,6 +1,6 @@
 use std::alloc::{AllocError, Global};
 
-// A place for one message that waits for a site.
+// Room for one message that waits for a site.
 #[derive(Drop)]
 pub(crate) struct Slot {
     message: Vec<u8>,

@@ -86,8 +86,7 @@ fn movement(number: usize) -> Movement {
     }
 }
 
-// The work of a round, each kind over a whole table or over all messages. A call that is refused adds no message and
-// no answer.
+// What a round does, with a whole table or with all messages. A call that is refused adds no message and no answer.
 impl<H: History> Bench<H> {
     // Posts a transaction of the movements of these numbers.
     fn post(&mut self, numbers: Range<usize>) -> Result<(), AllocError> {

@@ -18,7 +18,7 @@ pub(crate) struct Counts {
     granted: usize,
     // By the refusal's number.
     refused: [usize; LAST_REFUSAL + 1],
-    // Actions.
+    // How many actions were committed, taken and archived.
     pub(crate) committed: usize,
     pub(crate) taken: usize,
     pub(crate) archived: usize,

@@ -1,4 +1,5 @@
-// The refusal that a line has to meet, by its number. It is worked without the faults that a table answers.
+// The refusal that a line has to meet, with its number (docs/REFUSALS.md, section 2). The numbers stand here once more,
+// so that those of the library are tested.
 #[derive(Clone, Copy)]
 pub(crate) enum Due {
     AlreadyOpen = 2,

@@ -1,4 +1,4 @@
-// Lines that belong together: those that have all sites move, and those that bring an article level.
+// Lines that belong together: those that post movements of an article at all sites, and those that bring it level.
 use crate::offer::Offer;
 use crate::run::{Run, SLOTS};
 use crate::slot::Space;

@@ -3,7 +3,7 @@
 // Its own functions are proved only to be safe and to end.
 //
 // A run cannot meet every refusal: 1 is that of a set-up, 17 that of a history, 18 that of a script. 8 needs a clock
-// near 4,000,000,000, which no run reaches, since it starts at 0. All others are met.
+// near 4,000,000,000, which no run reaches, since clocks start at 0. All others are met.
 #![tactic(auto)]
 
 mod archive;
@@ -107,8 +107,8 @@ fn number(digits: &[u8]) -> u64 {
     })
 }
 
-// Reads three numbers: a seed, how many runs, and how many lines each has. Anything but a digit parts them. A number
-// that is missing is 0.
+// Reads three numbers: a seed, how many runs, and how many lines each has at least. Anything but a digit parts them.
+// A number that is missing is 0.
 fn read_wish(rt: &HostRuntime) -> io::Result<Wish> {
     let mut text = [0; 256];
     let length = rt.stdin().read(&mut text)?;
@@ -127,7 +127,7 @@ fn read_wish(rt: &HostRuntime) -> io::Result<Wish> {
 }
 
 fn main(rt: HostRuntime) -> Result<(), Stop> {
-    // The contracts of these calls are the proofs of the laws for each kind (docs/LAWS.md). They do nothing.
+    // These calls do nothing. Their contracts state the laws of whole runs, for each kind (docs/LAWS.md).
     each_movement_counted_once::<OnHand>();
     each_movement_counted_once::<Flags>();
     each_movement_counted_once::<Price>();

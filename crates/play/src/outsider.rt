@@ -11,7 +11,7 @@ pub(crate) const OUTSIDER: u8 = MOST_SITES as u8;
 pub(crate) enum Stranger {
     OtherGroup,
     OtherKind,
-    // Nothing that a ticket notes, but for the clock, which stays 0, and maybe the site.
+    // Its group and kind are those of the group's tables, its site is 0 or 1, and its clock stays 0.
     Twin,
 }
 

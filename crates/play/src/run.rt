@@ -9,7 +9,7 @@ use std::alloc::{AllocError, Global};
 use table::Table;
 use trials::Dice;
 
-// How many messages wait at a time. A message is lost when another goes into its slot.
+// How many messages can wait at a time. A message is lost when another goes into its slot.
 pub(crate) const SLOTS: u8 = 12;
 
 // One run: the tables of a group, the messages that wait, and the book. `K` is the kind of the group's tables, and `J`

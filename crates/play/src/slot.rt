@@ -6,7 +6,7 @@ use message::{HEADER_BYTES, INTERVAL_BYTES, SECTION_BYTES};
 use std::alloc::{AllocError, Global};
 use std::collections::BTreeSet;
 
-// The most places that a history has.
+// The most places that a history has in a run.
 pub(crate) const ROOMY: u8 = 120;
 
 // The longest message is an offer of all actions of such a history: one section, with an interval for each site.

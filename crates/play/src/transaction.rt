@@ -12,7 +12,7 @@ use table::{MOST_WRITES, TableFault};
 use trials::Movement;
 
 // Two items of a slice, by their different indices.
-fn pair<T>(items: &mut [T], one: u8, other: u8) -> Option<(&mut T, &mut T)> {
+fn two_of<T>(items: &mut [T], one: u8, other: u8) -> Option<(&mut T, &mut T)> {
     let (one, other) = (usize::from(one), usize::from(other));
     if one < other {
         let (low, high) = items.split_at_mut_checked(other)?;
@@ -31,7 +31,7 @@ impl<K: Kind + Drop, J: Kind + Drop> Run<K, J> {
         match by {
             Holder::Own => self.seat_mut(site)?.call(call),
             Holder::Site(other) => {
-                let (seat, other) = pair(&mut self.seats, site, other)?;
+                let (seat, other) = two_of(&mut self.seats, site, other)?;
                 seat.call_by(other, call)
             }
             Holder::Outsider => {

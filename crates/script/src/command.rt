@@ -198,7 +198,7 @@ fn three_digits(high: u8, middle: u8, low: u8) -> Option<u16>
     Some(100 * u16::from(hundreds) + 10 * u16::from(tens) + u16::from(ones))
 }
 
-// So many thousands and ones under their sign, which has to be there.
+// The amount of so many thousands and ones. `None` where the sign is neither `+` nor `-`.
 fn amount(sign: u8, thousands: u16, ones: u16) -> Option<i32>
     requires { (thousands < 1000) × (ones < 1000) }
     ensures { Sign sign (1000 * thousands + ones) result }

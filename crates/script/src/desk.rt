@@ -28,7 +28,7 @@ const ARTICLES: u32 = 4;
 // How many actions each site can keep.
 const PLACES: usize = 64;
 
-// The memory of a strip with that many places.
+// How many bytes of memory a strip with that many places has.
 const STRIP_BYTES: usize = PLACES * PLACE_BYTES;
 
 /// Three sites of one group, and the slots for their messages (docs/TALLY.md, section 2).
@@ -69,7 +69,7 @@ impl Desk {
         ensures does { Performs self.old index line.now (reply_of result.0) self.new }
         ensures printed { sheet_bytes result.1 ≡ sheet_of line.now (reply_of result.0) }
 
-        // Where the desk stood at the end of a run, it now stands at the end of that run and the calls made here.
+        // Where the desk stood at the end of a run, it now stands at the end of that run plus the calls made here.
         ensures stands { LineStands self.old index line.now (reply_of result.0) self.new }
     {
         let command = parse(line);

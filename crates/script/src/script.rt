@@ -10,11 +10,11 @@ use std::alloc::AllocError;
 pub const LONGEST_SCRIPT: usize = 32_768;
 
 /// Runs the lines of a script on the desk, and appends to `out` what is printed for them.
-/// It fails only where that is above the capacity of `out` and there is no memory for more.
+/// It fails only where `out` has no capacity left for that and there is no memory for more.
 pub fn run_script(desk: &mut Desk, input: &[u8], out: &mut Vec<u8>) -> Result<(), AllocError>
     ensures does { Scripted desk.old input.now out.old.items (vec_capacity out.old) result desk.new out.new.items }
 
-    // Where the desk stood at the end of a run, it now stands at the end of that run and the calls made here.
+    // Where the desk stood at the end of a run, it now stands at the end of that run plus the calls made here.
     // Each figure that is printed is what the run counts.
     ensures stands { ScriptStands desk.old input.now out.old.items (vec_capacity out.old) result desk.new out.new.items }
 {

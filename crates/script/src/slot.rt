@@ -9,7 +9,7 @@ pub(crate) const SLOTS: usize = 10;
 // How many bytes a slot has room for.
 pub(crate) const SLOT_BYTES: usize = 1200;
 
-/// A place for one message (docs/TALLY.md, section 6). A new slot is empty.
+/// Room for one message (docs/TALLY.md, section 6). A new slot is empty.
 #[derive(Clone, Default, Drop)]
 pub struct Slot {
     message: ArrayVec<u8, SLOT_BYTES>,

@@ -7,7 +7,7 @@ use script::{Desk, LONGEST_SCRIPT, run_script};
 use std::io::{self, Read, Write};
 
 fn main(rt: HostRuntime) -> io::Result<()> {
-    // It computes nothing: the laws of whole runs are its contract (docs/LAWS.md).
+    // This call does nothing. Its contract states the laws of whole runs (docs/LAWS.md).
     each_movement_counted_once::<OnHand>();
     let mut input = Vec::new(rt.alloc());
     rt.stdin()

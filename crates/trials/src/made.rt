@@ -1,9 +1,9 @@
 use history::{MOST_PLACES, PLACE_BYTES, Rack, Strip};
 use std::alloc::{AllocError, Global};
 
-/// A history that a program can make, whichever of the two it is.
+/// A history that a program can make without knowing whether it is a rack or a strip.
 pub trait Made {
-    /// An empty history of so many places, 1,024 at the most.
+    /// An empty history of so many places, at most `MOST_PLACES`. `AllocError` where there is no memory for it.
     fn made(heap: Global, places: usize) -> Result<Self, AllocError>;
 }
 

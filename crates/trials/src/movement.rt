@@ -14,7 +14,7 @@ pub struct Movement {
 }
 
 /// Opens, writes and commits one transaction. Writes that are refused are left out of it.
-/// Answers its number of actions, and of bytes of its message. `None` says that it was not opened or not committed.
+/// Answers how many actions it has and how many bytes its message has; `None` where it was not opened or not committed.
 pub fn post<K: Kind, H: History, I: Iterator<Item = Movement>>(
     table: &mut Table<K, H>,
     movements: I,
@@ -35,6 +35,7 @@ pub fn post<K: Kind, H: History, I: Iterator<Item = Movement>>(
     }
     match table.commit(ticket, buffer) {
         Ok(done) => Some(done),
+        // A ticket has to be spent. This one is the table's own, so the abandon is not refused.
         Err((_, ticket)) => {
             table.abandon(ticket).unwrap();
             None
