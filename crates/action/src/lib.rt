@@ -1,5 +1,5 @@
-// What every other crate of the site tables speaks of: actions and their order, the set-up of a
-// table, and refusals.
+//! What every other crate of the site tables speaks of: actions and their order, the set-up of a
+//! table, and refusals.
 #![tactic(auto)]
 
 mod action;

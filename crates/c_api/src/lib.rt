@@ -1,4 +1,4 @@
-// The one call for C.
+//! The one call for C.
 #![tactic(auto)]
 
 ghost use Rattle.std.specs.Prelude.{◌≡◌};

@@ -1,8 +1,8 @@
-// The worked examples as one table (specs/Table.antt), each row of which is proved of the definitions. The rows
-// of figures and of the order stand here once more as code, and are proved to come out the same.
-//
-// The rows themselves say nothing of the code. That it computes what the definitions do, for all arguments, is
-// in the contracts of `Kind::step`, `Action::precedes` and `Table::take`.
+//! The worked examples as one table (specs/Table.antt), each row of which is proved of the definitions. The rows
+//! of figures and of the order stand here once more as code, and are proved to come out the same.
+//!
+//! The rows themselves say nothing of the code. That it computes what the definitions do, for all arguments, is
+//! in the contracts of `Kind::step`, `Action::precedes` and `Table::take`.
 #![tactic(auto)]
 
 ghost use Rattle.std.specs.Prelude.{◌≡◌, true};

@@ -1,4 +1,4 @@
-// Histories: where a table keeps its actions, behind one trait with two ways to keep them.
+//! Histories: where a table keeps its actions, behind one trait with two ways to keep them.
 #![tactic(auto)]
 
 mod history;

@@ -1,4 +1,4 @@
-// Kinds of figure: what a table keeps for each article and how actions change it, behind one trait.
+//! Kinds of figure: what a table keeps for each article and how actions change it, behind one trait.
 #![tactic(auto)]
 
 mod flags;

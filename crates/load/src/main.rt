@@ -1,5 +1,5 @@
-// Does the work that each line of standard input names, and prints what came of it (docs/LOAD.md). The second
-// program (`second/`) has to print the same.
+//! Does the work that each line of standard input names, and prints what came of it (docs/LOAD.md). The second
+//! program (`second/`) has to print the same.
 #![tactic(auto)]
 
 mod counts;

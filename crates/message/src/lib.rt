@@ -1,4 +1,4 @@
-// Messages between the sites of a group: their four records, and the writing and reading of them.
+//! Messages between the sites of a group: their four records, and the writing and reading of them.
 #![tactic(auto)]
 
 mod actions;

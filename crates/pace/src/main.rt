@@ -1,7 +1,7 @@
-// Does the work that each line of standard input names, as often as the line says. Prints a sum of all answers, a
-// sum of the bytes of the messages, and the figures at the end. `scripts/pace` measures how long it takes.
-//
-// The second program (`second/`) has to print the same.
+//! Does the work that each line of standard input names, as often as the line says. Prints a sum of all answers, a
+//! sum of the bytes of the messages, and the figures at the end. `scripts/pace` measures how long it takes.
+//!
+//! The second program (`second/`) has to print the same.
 #![tactic(auto)]
 
 mod bag;

@@ -1,9 +1,9 @@
-// Plays random runs by seed on real tables, and holds them to four laws of whole runs by a book that it keeps itself
-// (docs/PLAY.md). The laws are proved of every run. This program is a test beside the proofs, of the compiled tables.
-// Its own functions are proved only to be safe and to end.
-//
-// A run cannot meet every refusal: 1 is that of a set-up, 17 that of a history, 18 that of a script. 8 needs a clock
-// near 4,000,000,000, which no run reaches, since clocks start at 0. All others are met.
+//! Plays random runs by seed on real tables, and holds them to four laws of whole runs by a book that it keeps itself
+//! (docs/PLAY.md). The laws are proved of every run. This program is a test beside the proofs, of the compiled tables.
+//! Its own functions are proved only to be safe and to end.
+//!
+//! A run cannot meet every refusal: 1 is that of a set-up, 17 that of a history, 18 that of a script. 8 needs a clock
+//! near 4,000,000,000, which no run reaches, since clocks start at 0. All others are met.
 #![tactic(auto)]
 
 mod archive;

@@ -1,4 +1,4 @@
-// What a table keeps of each article, and the passes of its calls over rows, history and messages.
+//! What a table keeps of each article, and the passes of its calls over rows, history and messages.
 #![tactic(auto)]
 
 mod archive;

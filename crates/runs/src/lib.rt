@@ -1,5 +1,5 @@
-// The laws of whole runs: what holds of one group's tables after any calls, in any order, at any of its
-// sites, where messages are taken late, often, in any order or never.
+//! The laws of whole runs: what holds of one group's tables after any calls, in any order, at any of its
+//! sites, where messages are taken late, often, in any order or never.
 #![tactic(auto)]
 
 ghost use Rattle.runs.specs.Laws.{Believed, Counted, Entered, Learned, Level, NoneAhead, Repeated, Truthful};

@@ -1,4 +1,4 @@
-// The line language of the tally: three sites of one group, driven by lines of text.
+//! The line language of the tally: three sites of one group, driven by lines of text.
 #![tactic(auto)]
 
 mod act;

@@ -1,5 +1,5 @@
-// One site's table: its articles' figures and what is known of the other sites, kept up by
-// transactions of its own and by messages from the others.
+//! One site's table: its articles' figures and what is known of the other sites, kept up by
+//! transactions of its own and by messages from the others.
 #![tactic(auto)]
 
 mod archive;

@@ -104,11 +104,11 @@ pub(crate) fn written_in(transaction: &Option<Pending>) -> &[Action]
     }
 }
 
-// Writes a record that fits at an offset of the buffer, and answers the offset after it.
-pub(crate) fn emit(buffer: &mut [u8], at: usize, record: Record) -> usize
-    requires { at + length (record_bytes «record») ≤ length buffer.old }
-    ensures end { result ≡ at + length (record_bytes «record») }
-    ensures bytes { buffer.new ≡ overwritten buffer.old at (record_bytes «record») }
+// Writes a record of a message, which fits, at an offset of the buffer, and answers the offset after it.
+pub(crate) fn emit(buffer: &mut [u8], at: usize, part: Record) -> usize
+    requires { at + length (record_bytes part) ≤ length buffer.old }
+    ensures end { result ≡ at + length (record_bytes part) }
+    ensures bytes { buffer.new ≡ overwritten buffer.old at (record_bytes part) }
 {
-    put(buffer, at, record).unwrap()
+    put(buffer, at, part).unwrap()
 }

@@ -1,4 +1,4 @@
-// The tally: runs a script from standard input on a new desk, and prints what its lines answer (docs/TALLY.md).
+//! The tally: runs a script from standard input on a new desk, and prints what its lines answer (docs/TALLY.md).
 #![tactic(auto)]
 
 use kind::OnHand;

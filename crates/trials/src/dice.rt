@@ -29,21 +29,21 @@ impl Dice {
         x
     }
 
-    /// A number below `n`; 0 where `n` is 0.
-    pub fn below(&mut self, n: u32) -> u32
-        ensures { result ≤ n - 1 }
+    /// A number below the bound; 0 where that is 0.
+    pub fn below(&mut self, bound: u32) -> u32
+        ensures { result ≤ bound - 1 }
     {
-        if n == 0 {
+        if bound == 0 {
             return 0;
         }
-        ((self.next() >> 32) % u64::from(n)) as u32
+        ((self.next() >> 32) % u64::from(bound)) as u32
     }
 
-    /// A byte below `n`; 0 where `n` is 0.
-    pub fn byte(&mut self, n: u8) -> u8
-        ensures { result ≤ n - 1 }
+    /// A byte below the bound; 0 where that is 0.
+    pub fn byte(&mut self, bound: u8) -> u8
+        ensures { result ≤ bound - 1 }
     {
-        self.below(u32::from(n)) as u8
+        self.below(u32::from(bound)) as u8
     }
 
     /// True with a chance of so many percent.

@@ -1,5 +1,5 @@
-// What `play`, `load` and `pace` share: chance by seed, movements and how they are posted, and histories by their
-// names.
+//! What `play`, `load` and `pace` share: chance by seed, movements and how they are posted, and histories by their
+//! names.
 #![tactic(auto)]
 
 mod dice;

@@ -1,5 +1,5 @@
-// Two sites of one group keep one article. Site 0 posts a movement. Site 1 takes its message, and then
-// the very same message again, as a job does that a scheduler repeats: the figure moves once.
+//! Two sites of one group keep one article. Site 0 posts a movement. Site 1 takes its message, and then
+//! the very same message again, as a job does that a scheduler repeats: the figure moves once.
 #![tactic(auto)]
 
 ghost use Rattle.std.specs.Prelude.{◌≤◌, length, IfOk};
