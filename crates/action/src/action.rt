@@ -5,6 +5,9 @@ ghost use Rattle.action.specs.Order.{precedes};
 /// The latest time that an action may have. No action has time 0.
 pub const LATEST_TIME: u32 = 4_000_000_000;
 
+/// The most actions that a transaction may have.
+pub const MOST_WRITES: usize = 16;
+
 /// How many bytes an action's record has, in a message and in a strip.
 pub const ACTION_BYTES: usize = 16;
 

@@ -6,6 +6,6 @@ mod action;
 mod refusal;
 mod setup;
 
-pub use action::{ACTION_BYTES, Action, LATEST_TIME};
+pub use action::{ACTION_BYTES, Action, LATEST_TIME, MOST_WRITES};
 pub use refusal::{Layer, Refusal};
 pub use setup::{MOST_ARTICLES, MOST_SITES, Setup, UnlawfulSetup};

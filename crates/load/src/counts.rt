@@ -1,6 +1,6 @@
 use std::fmt;
 
-// What came of the seasons so far. docs/LOAD.md says what each count is. A count wraps at 2⁶⁴.
+/// What came of the seasons so far. docs/LOAD.md says what each count is. A count wraps at 2⁶⁴.
 #[derive(Clone, Copy, Default)]
 pub struct Counts {
     pub(crate) commits: u64,

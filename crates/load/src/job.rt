@@ -8,7 +8,7 @@ use std::alloc::{AllocError, Global};
 use std::str::FromStr;
 use trials::{Keeping, Made, NoJob};
 
-// What a line asks for: so many seasons of one group.
+/// What a line asks for: so many seasons of one group.
 #[derive(Clone, Copy)]
 pub struct Job {
     keeping: Keeping,

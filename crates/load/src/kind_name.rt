@@ -1,7 +1,7 @@
 use std::str::FromStr;
 use trials::NoJob;
 
-// The kind of all tables of a job, by its name.
+/// The kind of all tables of a job, by its name.
 #[derive(Clone, Copy)]
 pub enum KindName {
     OnHand,

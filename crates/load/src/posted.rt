@@ -1,7 +1,7 @@
 use kind::{Flags, Kind, OnHand, Price};
 use trials::Dice;
 
-// A kind of figure that draws by chance what a site posts.
+/// A kind of figure that draws by chance what a site posts.
 pub trait Posted: Kind {
     // A pair of operation and amount that the kind knows.
     fn pair(dice: &mut Dice) -> (u8, i32);

@@ -15,6 +15,7 @@ pub use intervals::{FoundInterval, Intervals};
 pub use reader::{Reader, check};
 pub use reader_fault::ReaderFault;
 pub use record::{
-    HEADER_BYTES, Header, INTERVAL_BYTES, Interval, Record, SECTION_BYTES, SectionHead, put,
+    HEADER_BYTES, Header, INTERVAL_BYTES, Interval, MOST_SECTIONS, Record, SECTION_BYTES,
+    SectionHead, put,
 };
 pub use records::{FoundRecord, sender_of};

@@ -4,7 +4,7 @@ ghost use Rattle.message.specs.Format.{header_bytes, interval_bytes, record_byte
 ghost use Rattle.message.specs.Progress.{lawful_header, named};
 ghost use Rattle.message.specs.Walks.{article_after, its_action, its_interval};
 
-use action::{ACTION_BYTES, Action, Setup};
+use action::{ACTION_BYTES, Action, MOST_WRITES, Setup};
 use kind::Kind;
 
 /// How many bytes a header has.
@@ -16,8 +16,8 @@ pub const SECTION_BYTES: usize = 5;
 /// How many bytes an interval has.
 pub const INTERVAL_BYTES: usize = 10;
 
-// The most sections that a message may have: one for each write that a transaction may have.
-const MOST_SECTIONS: u8 = 16;
+/// The most sections that a message may have: one for each action of a transaction.
+pub const MOST_SECTIONS: u8 = MOST_WRITES as u8;
 
 /// What a message begins with (record H).
 #[derive(Clone, Copy, Debug, PartialEq, Eq)]

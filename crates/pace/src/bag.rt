@@ -13,8 +13,8 @@ const MESSAGE: usize = HEADER_BYTES + SECTION_BYTES + INTERVAL_BYTES + ACTION_BY
 // Room for such a message for each place that a history may have.
 const ROOM: usize = MOST_PLACES * MESSAGE;
 
-// Messages of one length, one behind the other. They share one buffer, so that a message that is added asks for no
-// memory while there is room.
+/// Messages of one length, one behind the other. They share one buffer, so that a message that is added asks for no
+/// memory while there is room.
 #[derive(Drop)]
 pub struct Bag {
     bytes: Vec<u8>,

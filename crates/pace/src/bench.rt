@@ -30,7 +30,7 @@ const LONGEST: usize = HEADER_BYTES
     + SITES * INTERVAL_BYTES
     + MOST_ACTIONS * ACTION_BYTES;
 
-// A table with the messages that it wrote, or that it takes.
+/// A table with the messages that it wrote, or that it takes.
 #[derive(Drop)]
 pub struct Bench<H: History> {
     heap: Global,

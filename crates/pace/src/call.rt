@@ -1,7 +1,7 @@
 use std::str::FromStr;
 use trials::NoJob;
 
-// What there is before the first round.
+/// What there is before the first round.
 #[derive(Clone, Copy)]
 pub enum Start {
     // An empty table.
@@ -14,14 +14,14 @@ pub enum Start {
     Offers,
 }
 
-// Which table a round works on: a new one, or that of the round before.
+/// Which table a round works on: a new one, or that of the round before.
 #[derive(Clone, Copy)]
 pub enum Basis {
     New,
     Same,
 }
 
-// What a round does with its table.
+/// What a round does with its table.
 #[derive(Clone, Copy)]
 pub enum Work {
     Nothing,
@@ -35,7 +35,7 @@ pub enum Work {
     Take,
 }
 
-// The work that a word names (docs/SPEED.md).
+/// The work that a word names (docs/SPEED.md).
 #[derive(Clone, Copy)]
 pub struct Call {
     pub start: Start,

@@ -6,7 +6,7 @@ use std::alloc::{AllocError, Global};
 use std::str::FromStr;
 use trials::{Keeping, Made, NoJob};
 
-// What a line asks for: a call, on tables of so many places, once and then in so many rounds.
+/// What a line asks for: a call, on tables of so many places, once and then in so many rounds.
 #[derive(Clone, Copy)]
 pub struct Job {
     keeping: Keeping,

@@ -1,6 +1,6 @@
 use std::fmt;
 
-// What comes of a job, as it is printed.
+/// What comes of a job, as it is printed.
 #[derive(Drop)]
 pub struct Report {
     // The sum of what all calls answered.

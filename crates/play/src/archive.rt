@@ -1,5 +1,5 @@
 use crate::counts::up;
-use crate::due::Due;
+use crate::due_refusal::DueRefusal;
 use crate::run::Run;
 use crate::stop::Stop;
 use kind::Kind;
@@ -8,9 +8,9 @@ impl<K: Kind + Drop, J: Kind + Drop> Run<K, J> {
     // A line that archives.
     pub(crate) fn archive_line(&mut self, site: u8, article: u8) -> Result<(), Stop> {
         let due = if self.holds(site) {
-            Some(Due::AlreadyOpen)
+            Some(DueRefusal::AlreadyOpen)
         } else if article >= self.articles {
-            Some(Due::NoArticle)
+            Some(DueRefusal::NoArticle)
         } else {
             None
         };

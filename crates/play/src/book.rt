@@ -1,5 +1,5 @@
-use crate::found_interval::FoundInterval;
 use crate::page::Page;
+use crate::told_interval::ToldInterval;
 use action::Action;
 use kind::Kind;
 use std::alloc::{AllocError, Global};
@@ -107,7 +107,7 @@ impl Book {
     }
 
     // A take was granted: the site has all actions up to where the message's intervals end.
-    pub(crate) fn take(&mut self, site: u8, intervals: &[FoundInterval]) -> Result<(), AllocError> {
+    pub(crate) fn take(&mut self, site: u8, intervals: &[ToldInterval]) -> Result<(), AllocError> {
         let Some(page) = self.page_mut(site) else {
             return Ok(());
         };
@@ -118,7 +118,7 @@ impl Book {
     }
 
     // Does some interval begin above what the site has?
-    pub(crate) fn is_behind(&self, site: u8, intervals: &[FoundInterval]) -> bool {
+    pub(crate) fn is_behind(&self, site: u8, intervals: &[ToldInterval]) -> bool {
         intervals.iter().any(|interval| interval.from
             > self.reach(site, interval.article, interval.site))
     }
@@ -129,7 +129,7 @@ impl Book {
     }
 
     // How many committed actions a take of these intervals would bring the site.
-    pub(crate) fn news(&self, site: u8, intervals: &[FoundInterval]) -> usize {
+    pub(crate) fn news(&self, site: u8, intervals: &[ToldInterval]) -> usize {
         self.committed
             .values()
             .filter(|action| !self.reaches(site, action) && is_carried(action, intervals))
@@ -183,7 +183,7 @@ impl Book {
 }
 
 // Is there an interval that goes up to the action?
-fn is_carried(action: &Action, intervals: &[FoundInterval]) -> bool {
+fn is_carried(action: &Action, intervals: &[ToldInterval]) -> bool {
     intervals.iter().any(|interval| {
         interval.article == action.article
             && interval.site == action.coordinator

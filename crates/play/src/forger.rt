@@ -1,18 +1,14 @@
 ghost use Rattle.std.specs.Prelude.{◌≤◌, IfSome};
 
 use crate::book::Book;
-use crate::due::Due;
-use crate::found_interval::intervals;
+use crate::due_refusal::DueRefusal;
 use crate::run::Run;
+use crate::told_interval::intervals;
 use action::{ACTION_BYTES, LATEST_TIME};
 use kind::Kind;
-use message::{HEADER_BYTES, INTERVAL_BYTES, SECTION_BYTES};
+use message::{HEADER_BYTES, INTERVAL_BYTES, MOST_SECTIONS, SECTION_BYTES};
 use std::alloc::AllocError;
-use table::MOST_WRITES;
 use trials::Dice;
-
-// The most sections that a message may have: one for each write that a transaction may have.
-const MOST_SECTIONS: u8 = MOST_WRITES as u8;
 
 // Where the last two fields of the header stand in it.
 const SENDER: usize = 4;
@@ -82,46 +78,46 @@ impl Forger<'_> {
     }
 
     // Noise that does not begin as a message does.
-    fn make_noise(&mut self) -> Result<Due, AllocError> {
+    fn make_noise(&mut self) -> Result<DueRefusal, AllocError> {
         self.copy.clear();
         for _ in 0..self.dice.byte(100) {
             self.copy.push(self.dice.byte(255))?;
         }
         let first = self.dice.byte(b'H');
         self.patch(0, first);
-        Ok(Due::Cut)
+        Ok(DueRefusal::Cut)
     }
 
     // The message without its end.
-    fn cut(&mut self) -> Due {
+    fn cut(&mut self) -> DueRefusal {
         let length = u32::try_from(self.copy.len()).unwrap_or(0);
         self.copy.truncate(self.dice.below(length) as usize);
-        Due::Cut
+        DueRefusal::Cut
     }
 
     // The message with bytes after its end.
-    fn append(&mut self) -> Result<Due, AllocError> {
+    fn append(&mut self) -> Result<DueRefusal, AllocError> {
         let more = usize::from(self.dice.byte(20) + 1);
         let length = self.copy.len().wrapping_add(more);
         self.copy.resize(length, 0)?;
-        Ok(Due::Trailing)
+        Ok(DueRefusal::Trailing)
     }
 
     // Damages the header: its letter, its group or kind, its sender, or how many sections it has.
-    fn spoil_header(&mut self, sites: u8) -> Due {
+    fn spoil_header(&mut self, sites: u8) -> DueRefusal {
         match self.dice.byte(6) {
             0 => {
                 self.change(0);
-                Due::Cut
+                DueRefusal::Cut
             }
             at @ 1..=3 => {
                 self.change(usize::from(at));
-                Due::Foreign
+                DueRefusal::Foreign
             }
             4 => {
                 let sender = sites.wrapping_add(self.dice.byte(200));
                 self.patch(SENDER, sender);
-                Due::Broken
+                DueRefusal::Broken
             }
             _ => {
                 let sections = match self.dice.byte(200) {
@@ -129,17 +125,17 @@ impl Forger<'_> {
                     more => more + MOST_SECTIONS,
                 };
                 self.patch(SECTIONS, sections);
-                Due::Broken
+                DueRefusal::Broken
             }
         }
     }
 
     // Damages the first section's head or its first interval.
-    fn spoil_section(&mut self, sites: u8, articles: u8) -> Due {
+    fn spoil_section(&mut self, sites: u8, articles: u8) -> DueRefusal {
         match self.dice.byte(7) {
             0 => {
                 self.change(HEAD);
-                return Due::Cut;
+                return DueRefusal::Cut;
             }
             1 => {
                 let about = articles.wrapping_add(self.dice.byte(150));
@@ -148,7 +144,7 @@ impl Forger<'_> {
             2 => self.patch(HEAD + INTERVALS, 0),
             3 => {
                 self.change(FIRST);
-                return Due::Cut;
+                return DueRefusal::Cut;
             }
             4 => {
                 let site = sites.wrapping_add(self.dice.byte(200));
@@ -157,7 +153,7 @@ impl Forger<'_> {
             5 => self.patch_time(FIRST + FROM, u32::MAX),
             _ => self.patch_time(FIRST + TO, LATEST_TIME + 1),
         }
-        Due::Broken
+        DueRefusal::Broken
     }
 
     // Where the first section's first action begins, if it has one. A section has 255 intervals at the most.
@@ -170,7 +166,7 @@ impl Forger<'_> {
     }
 
     // Damages the first action: its time, its transaction, its article or its operation.
-    fn spoil_action(&mut self) -> Due {
+    fn spoil_action(&mut self) -> DueRefusal {
         let Some(at) = self.first_action() else {
             return self.cut();
         };
@@ -180,12 +176,12 @@ impl Forger<'_> {
             2 => self.change(at + ARTICLE),
             _ => self.patch(at + OPERATION, 0),
         }
-        Due::Broken
+        DueRefusal::Broken
     }
 
     // Has a message of one section carry its last action twice. It has so few actions that the low byte of their number
     // can count one more.
-    fn double_action(&mut self) -> Result<Due, AllocError> {
+    fn double_action(&mut self) -> Result<DueRefusal, AllocError> {
         if self.first_action().is_none() || self.byte_at(SECTIONS) != 1 {
             return Ok(self.cut());
         }
@@ -193,11 +189,11 @@ impl Forger<'_> {
         self.copy.extend_from_within(last..)?;
         let count = self.byte_at(HEAD + ACTIONS);
         self.patch(HEAD + ACTIONS, count.wrapping_add(1));
-        Ok(Due::Broken)
+        Ok(DueRefusal::Broken)
     }
 
     // Has the message say that the taking site has committed more than it has.
-    fn claim(&mut self, site: u8, book: &Book) -> Result<Due, AllocError> {
+    fn claim(&mut self, site: u8, book: &Book) -> Result<DueRefusal, AllocError> {
         let intervals = intervals(*self.copy.allocator(), self.copy)?;
         let Some(own) = intervals.iter().find(|interval| interval.site == site) else {
             return Ok(self.cut());
@@ -205,16 +201,16 @@ impl Forger<'_> {
         let done = book.reach(site, own.article, site);
         self.patch_time(own.at.wrapping_add(TO), done.wrapping_add(1));
         if book.is_behind(site, &intervals) {
-            Ok(Due::Behind)
+            Ok(DueRefusal::Behind)
         } else {
-            Ok(Due::Ahead)
+            Ok(DueRefusal::Ahead)
         }
     }
 }
 
 impl<K: Kind + Drop, J: Kind + Drop> Run<K, J> {
     // Damages the copy of a message that the site is to take, and answers the refusal that is due.
-    pub(crate) fn forge(&mut self, site: u8, copy: &mut Vec<u8>) -> Result<Due, AllocError> {
+    pub(crate) fn forge(&mut self, site: u8, copy: &mut Vec<u8>) -> Result<DueRefusal, AllocError> {
         let dice = &mut self.dice;
         let mut forger = Forger { copy, dice };
         if forger.copy.is_empty() {

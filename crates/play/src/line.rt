@@ -1,4 +1,4 @@
-use crate::due::Due;
+use crate::due_refusal::DueRefusal;
 use crate::law::Law;
 use crate::run::Run;
 use action::Refusal;
@@ -12,14 +12,14 @@ use table::TableFault;
 pub(crate) struct Line {
     pub(crate) site: u8,
     // What the call has to be refused by; `None` where it has to be granted.
-    due: Option<Due>,
+    due: Option<DueRefusal>,
     // What the site's table showed before the call.
     shown: Vec<Option<i64>>,
 }
 
 impl<K: Kind + Drop, J: Kind + Drop> Run<K, J> {
     // Begins a line: notes what the site's table shows before the call.
-    pub(crate) fn begin(&self, site: u8, due: Option<Due>) -> Result<Line, AllocError> {
+    pub(crate) fn begin(&self, site: u8, due: Option<DueRefusal>) -> Result<Line, AllocError> {
         let shown = self.shown(site)?;
         Ok(Line { site, due, shown })
     }

@@ -14,9 +14,8 @@ mod check;
 mod choice;
 mod counts;
 mod course;
-mod due;
+mod due_refusal;
 mod forger;
-mod found_interval;
 mod law;
 mod level;
 mod line;
@@ -30,6 +29,7 @@ mod seat;
 mod slot;
 mod stop;
 mod take;
+mod told_interval;
 mod transaction;
 mod turn;
 

@@ -1,4 +1,4 @@
-use crate::due::Due;
+use crate::due_refusal::DueRefusal;
 use crate::law::Law;
 use crate::run::Run;
 use crate::slot::{SLOT_BYTES, Space};
@@ -68,11 +68,11 @@ impl<K: Kind + Drop, J: Kind + Drop> Run<K, J> {
         let site = offer.site;
         let length = self.offer_length(offer);
         let due = if offer.article >= self.articles {
-            Some(Due::NoArticle)
+            Some(DueRefusal::NoArticle)
         } else if offer.peer >= self.sites {
-            Some(Due::NoSite)
+            Some(DueRefusal::NoSite)
         } else if length > space.most {
-            Some(Due::Short)
+            Some(DueRefusal::Short)
         } else {
             None
         };

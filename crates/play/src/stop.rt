@@ -3,7 +3,7 @@ use std::alloc::{AllocError, AllocFailed};
 use std::error::Error;
 use std::{fmt, io};
 
-// Why the program stops before its end.
+/// Why the program stops before its end.
 #[derive(Debug, Drop)]
 pub enum Stop {
     Memory,

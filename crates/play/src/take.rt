@@ -1,26 +1,26 @@
 // The lines that take a message: one that a table wrote, or a forged one.
 use crate::counts::up;
-use crate::due::Due;
-use crate::found_interval::{self, FoundInterval};
+use crate::due_refusal::DueRefusal;
 use crate::law::Law;
 use crate::line::Line;
 use crate::run::Run;
 use crate::stop::Stop;
+use crate::told_interval::{self, ToldInterval};
 use kind::Kind;
 use std::alloc::AllocError;
 use table::TableFault;
 
 impl<K: Kind + Drop, J: Kind + Drop> Run<K, J> {
     // What a take has to be refused by, of a message with these intervals and so many new actions.
-    fn due_of_take(&self, site: u8, intervals: &[FoundInterval], news: usize) -> Option<Due> {
+    fn due_of_take(&self, site: u8, intervals: &[ToldInterval], news: usize) -> Option<DueRefusal> {
         if self.holds(site) {
-            Some(Due::AlreadyOpen)
+            Some(DueRefusal::AlreadyOpen)
         } else if intervals.is_empty() {
-            Some(Due::Cut)
+            Some(DueRefusal::Cut)
         } else if self.book.is_behind(site, intervals) {
-            Some(Due::Behind)
+            Some(DueRefusal::Behind)
         } else if news > self.free(site) {
-            Some(Due::Full)
+            Some(DueRefusal::Full)
         } else {
             None
         }
@@ -38,7 +38,7 @@ impl<K: Kind + Drop, J: Kind + Drop> Run<K, J> {
         &mut self,
         site: u8,
         slot: u8,
-        intervals: &[FoundInterval],
+        intervals: &[ToldInterval],
         count: usize,
     ) -> Result<(), AllocError> {
         self.book.take(site, intervals)?;
@@ -67,7 +67,7 @@ impl<K: Kind + Drop, J: Kind + Drop> Run<K, J> {
         let Some(held) = self.slots.get(usize::from(slot)) else {
             return Ok(());
         };
-        let intervals = found_interval::intervals(self.heap, held.message())?;
+        let intervals = told_interval::intervals(self.heap, held.message())?;
         let is_repeat = held.was_taken(site);
         let news = self.book.news(site, &intervals);
         let line = self.begin(site, self.due_of_take(site, &intervals, news))?;
@@ -93,7 +93,7 @@ impl<K: Kind + Drop, J: Kind + Drop> Run<K, J> {
         let mut copy = Vec::from_slice(self.heap, held.message())?;
         let forged = self.forge(site, &mut copy)?;
         let due = if self.holds(site) {
-            Due::AlreadyOpen
+            DueRefusal::AlreadyOpen
         } else {
             forged
         };

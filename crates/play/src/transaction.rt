@@ -1,14 +1,15 @@
 // The lines of transactions: open, write, commit and abandon, by the site's own ticket or a wrong one.
 use crate::call::{Abandon, Call, Commit, Write};
 use crate::counts::up;
-use crate::due::Due;
+use crate::due_refusal::DueRefusal;
 use crate::law::Law;
 use crate::run::Run;
 use crate::slot::{SLOT_BYTES, Space};
 use crate::stop::Stop;
 use crate::turn::{Holder, Turn};
+use action::MOST_WRITES;
 use kind::Kind;
-use table::{MOST_WRITES, TableFault};
+use table::TableFault;
 use trials::Movement;
 
 // Two items of a slice, by their different indices.
@@ -42,7 +43,7 @@ impl<K: Kind + Drop, J: Kind + Drop> Run<K, J> {
     }
 
     pub(crate) fn open_line(&mut self, site: u8) -> Result<(), Stop> {
-        let due = self.holds(site).then_some(Due::AlreadyOpen);
+        let due = self.holds(site).then_some(DueRefusal::AlreadyOpen);
         let line = self.begin(site, due)?;
         let Some(seat) = self.seat_mut(site) else {
             return Ok(());
@@ -53,15 +54,15 @@ impl<K: Kind + Drop, J: Kind + Drop> Run<K, J> {
     }
 
     // What a write has to be refused by.
-    fn due_of_write(&self, turn: Turn, movement: Movement) -> Option<Due> {
+    fn due_of_write(&self, turn: Turn, movement: Movement) -> Option<DueRefusal> {
         if turn.by != Holder::Own {
-            Some(Due::NotItsTicket)
+            Some(DueRefusal::NotItsTicket)
         } else if movement.article >= self.articles {
-            Some(Due::NoArticle)
+            Some(DueRefusal::NoArticle)
         } else if !K::is_known(movement.operation, movement.amount) {
-            Some(Due::UnknownPair)
+            Some(DueRefusal::UnknownPair)
         } else if self.book.writes(turn.site) >= MOST_WRITES {
-            Some(Due::TooManyWrites)
+            Some(DueRefusal::TooManyWrites)
         } else {
             None
         }
@@ -82,11 +83,11 @@ impl<K: Kind + Drop, J: Kind + Drop> Run<K, J> {
     }
 
     // What a commit has to be refused by.
-    fn due_of_commit(&self, turn: Turn) -> Option<Due> {
+    fn due_of_commit(&self, turn: Turn) -> Option<DueRefusal> {
         if turn.by != Holder::Own {
-            Some(Due::NotItsTicket)
+            Some(DueRefusal::NotItsTicket)
         } else if self.book.writes(turn.site) > self.free(turn.site) {
-            Some(Due::Full)
+            Some(DueRefusal::Full)
         } else {
             None
         }
@@ -121,7 +122,7 @@ impl<K: Kind + Drop, J: Kind + Drop> Run<K, J> {
 
     pub(crate) fn abandon_line(&mut self, turn: Turn) -> Result<(), Stop> {
         let Turn { site, by } = turn;
-        let due = (by != Holder::Own).then_some(Due::NotItsTicket);
+        let due = (by != Holder::Own).then_some(DueRefusal::NotItsTicket);
         let line = self.begin(site, due)?;
         let Some(answer) = self.call(turn, Abandon) else {
             return Ok(());

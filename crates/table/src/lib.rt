@@ -14,7 +14,6 @@ mod ticket;
 mod transaction;
 mod transaction_message;
 
-pub use state::MOST_WRITES;
 pub use table::Table;
 pub use table_fault::TableFault;
 pub use ticket::Ticket;

@@ -9,15 +9,12 @@ ghost use Rattle.table.specs.Faults.{Passes};
 
 use crate::table_fault::TableFault;
 use crate::ticket::Ticket;
-use action::Action;
+use action::{Action, MOST_WRITES};
 use arrayvec::ArrayVec;
 use history::History;
 use kind::Kind;
 use message::{Header, Record, put};
 use row::Ledger;
-
-/// The most writes that a transaction may have.
-pub const MOST_WRITES: usize = 16;
 
 // The pending actions of an open transaction.
 pub(crate) type Pending = ArrayVec<Action, MOST_WRITES>;

@@ -1,12 +1,12 @@
 ghost use Rattle.table.specs.Sound.{Sound};
 ghost use Rattle.table.specs.Transactions.{Abandoned, Opened, Wrote};
 
-use crate::state::{MOST_WRITES, Pending, written_in};
+use crate::state::{Pending, written_in};
 use crate::store::Store;
 use crate::table::Table;
 use crate::table_fault::TableFault;
 use crate::ticket::Ticket;
-use action::{Action, LATEST_TIME};
+use action::{Action, LATEST_TIME, MOST_WRITES};
 use history::History;
 use kind::Kind;
 

@@ -8,7 +8,7 @@ use std::alloc::{AllocError, Global};
 // An interval of a message, with its section's article. It is read by code of the program's own, so that the book does
 // not depend on the library's reader.
 #[derive(Clone, Copy)]
-pub(crate) struct FoundInterval {
+pub(crate) struct ToldInterval {
     // The offset at which it begins.
     pub(crate) at: usize,
     pub(crate) article: u8,
@@ -47,13 +47,13 @@ impl<'a> Iterator for Records<'a> {
 }
 
 // All intervals of a message, in its order.
-pub(crate) fn intervals(heap: Global, bytes: &[u8]) -> Result<Vec<FoundInterval>, AllocError> {
+pub(crate) fn intervals(heap: Global, bytes: &[u8]) -> Result<Vec<ToldInterval>, AllocError> {
     let mut found = Vec::new(heap);
     let mut article = 0;
     for (at, record) in (Records { at: 0, left: bytes }) {
         match *record {
             [b'S', about, ..] => article = about,
-            [b'I', site, f3, f2, f1, f0, t3, t2, t1, t0] => found.push(FoundInterval {
+            [b'I', site, f3, f2, f1, f0, t3, t2, t1, t0] => found.push(ToldInterval {
                 at,
                 article,
                 site,

@@ -1,7 +1,7 @@
 // The refusal that a line has to meet, with its number (docs/REFUSALS.md, section 2). The numbers stand here once more,
 // so that those of the library are tested.
 #[derive(Clone, Copy)]
-pub(crate) enum Due {
+pub(crate) enum DueRefusal {
     AlreadyOpen = 2,
     NotItsTicket = 3,
     NoArticle = 4,
