@@ -1,4 +1,5 @@
 pub mod Changes
 pub mod Faults
+pub mod Room
 pub mod Strips
 pub mod Walks

@@ -1,6 +1,7 @@
 ghost use Rattle.std.specs.Prelude.{◌≡◌, ℕ, ◌≤◌, List, length};
 ghost use Rattle.action.specs.declared.action.Action.{Action as AnAction};
 ghost use Rattle.history.specs.Changes.{Inserted, Read, Removed};
+ghost use Rattle.history.specs.Room.{Room};
 
 use crate::history_fault::HistoryFault;
 use action::Action;
@@ -14,8 +15,8 @@ pub trait History {
     // The list.
     ghost items: { Self → List AnAction };
 
-    // The capacity: for how many actions there is room in all.
-    ghost room: { Self → ℕ };
+    // What it has room for.
+    ghost room: { Self → Room };
 
     /// How many actions there are.
     fn count(&self) -> usize
@@ -23,7 +24,7 @@ pub trait History {
 
     /// For how many actions there is room in all.
     fn capacity(&self) -> usize
-        ensures { result ≡ room self.now };
+        ensures { result ≡ (room self.now).places };
 
     /// The action at a place. Refused by 17 where there is none.
     fn read(&self, place: usize) -> Result<Action, HistoryFault>
@@ -41,5 +42,5 @@ pub trait History {
         ensures fixed { room self.new ≡ room self.old };
 
     // No list is longer than its capacity, and no capacity is above `MOST_PLACES`.
-    ghost bounded: { (h : Self) → (length (items h) ≤ room h) × (room h ≤ 1024) };
+    ghost bounded: { (h : Self) → (length (items h) ≤ (room h).places) × ((room h).places ≤ 1024) };
 }

@@ -31,7 +31,7 @@ impl Rack {
 impl History for Rack {
     ghost items = { λ rack. rack.actions.items };
 
-    ghost room = { λ rack. rack.places };
+    ghost room = { λ rack. record { places = rack.places } };
 
     ghost bounded = { λ rack. (rack.within, rack.few) };
 

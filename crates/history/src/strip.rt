@@ -84,7 +84,7 @@ impl Strip {
 impl History for Strip {
     ghost items = { λ strip. strip_items strip.used strip.bytes.items };
 
-    ghost room = { λ strip. strip.places };
+    ghost room = { λ strip. record { places = strip.places } };
 
     ghost bounded = { λ strip. (strip.within, strip.few) };
 

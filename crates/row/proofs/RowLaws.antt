@@ -61,7 +61,7 @@ module _ (change : Action → Row → Row) where
   row_on_rows = row_on_articles (λ x. x.article) change
 
 -- a row stepped by actions
-pub stepped_by : (steps : ℤ → ℕ → ℤ → ℤ) (r : Row) (xs : List Action) → fold (λ r x. stepped_row steps x r) r xs ≡ record { base = r.base; kept = working steps r.kept xs; known = r.known }
+pub stepped_by : (steps : ℤ → ℕ → ℤ → ℤ) (r : Row) (xs : List Action) → fold (λ r x. stepped_row steps x r) r xs ≡ record r { kept = working steps r.kept xs }
 stepped_by steps r [] = refl
 stepped_by steps r (x ∷ xs) = stepped_by steps (stepped_row steps x r) xs
 
@@ -69,16 +69,16 @@ module _ (steps : ℤ → ℕ → ℤ → ℤ) (rows : List Row) (xs : List Acti
   pub length_stepped : length (stepped_rows steps rows xs) ≡ length rows
   length_stepped = length_on_rows (stepped_row steps) rows xs
 
-  pub row_stepped : (a : ℕ) → a < length rows → get_or (stepped_rows steps rows xs) a no_row ≡ record { base = (get_or rows a no_row).base; kept = working steps (get_or rows a no_row).kept (on a xs); known = (get_or rows a no_row).known }
+  pub row_stepped : (a : ℕ) → a < length rows → get_or (stepped_rows steps rows xs) a no_row ≡ (let r = get_or rows a no_row in record r { kept = working steps r.kept (on a xs) })
   row_stepped a within = row_on_rows (stepped_row steps) rows xs a within ∙ stepped_by steps (get_or rows a no_row) (on a xs)
 
 module _ (steps : ℤ → ℕ → ℤ → ℤ) (rows : List Row) (xs : List Action) where
   pub length_reworked : length (reworked_rows steps rows xs) ≡ length rows
   length_reworked = length_stepped steps (map restarted rows) xs ∙ length-map rows restarted
 
-  pub row_reworked : (a : ℕ) → a < length rows → get_or (reworked_rows steps rows xs) a no_row ≡ record { base = (get_or rows a no_row).base; kept = working steps (get_or rows a no_row).base (on a xs); known = (get_or rows a no_row).known }
+  pub row_reworked : (a : ℕ) → a < length rows → get_or (reworked_rows steps rows xs) a no_row ≡ (let r = get_or rows a no_row in record r { kept = working steps r.base (on a xs) })
   row_reworked a within =
-      row_stepped steps (map restarted rows) xs a (omega (arith, length-map rows restarted)) ∙ ap (λ (r : Row). record { base = r.base; kept = working steps r.kept (on a xs); known = r.known }) (get_or-map restarted rows a no_row no_row within)
+      row_stepped steps (map restarted rows) xs a (omega (arith, length-map rows restarted)) ∙ ap (λ (r : Row). record r { kept = working steps r.kept (on a xs) }) (get_or-map restarted rows a no_row no_row within)
 
 -- an entry of one list raised twice, and of a list of lists
 twice : (row : List ℕ) (q s t : ℕ) → set (set row q (max (get_or row q 0) s)) q (max (get_or (set row q (max (get_or row q 0) s)) q 0) t) ≡ set row q (max (get_or row q 0) (max s t))
@@ -117,13 +117,13 @@ times t xs = fold (λ t x. max t x.time) t xs
 pub raised_by_lem : (z q : ℕ) (r : Row) (t : ℕ) (xs : List Action) → fold (λ r x. raised_row z q x.time r) (raised_row z q t r) xs ≡ raised_row z q (times t xs) r
 raised_by_lem z q r t [] = refl
 raised_by_lem z q r t (x ∷ xs) =
-    ap (λ k. fold (λ r x. raised_row z q x.time r) (record { base = r.base; kept = r.kept; known = k }) xs) (raised_twice r.known z q t x.time) ∙ raised_by_lem z q r (max t x.time) xs
+    ap (λ k. fold (λ r x. raised_row z q x.time r) (record r { known = k }) xs) (raised_twice r.known z q t x.time) ∙ raised_by_lem z q r (max t x.time) xs
 
 pub raised_from : (z q : ℕ) (r : Row) (xs : List Action) → fold (λ r x. raised_row z q x.time r) r xs ≡ raised_row z q (times 0 xs) r
 raised_from z q r xs =
-    ap (λ k. fold (λ r x. raised_row z q x.time r) (record { base = r.base; kept = r.kept; known = k }) xs) (sym (raised_none r.known z q)) ∙ raised_by_lem z q r 0 xs
+    ap (λ k. fold (λ r x. raised_row z q x.time r) (record r { known = k }) xs) (sym (raised_none r.known z q)) ∙ raised_by_lem z q r 0 xs
 
 -- a row raised by intervals
-pub told_by : (own sender : ℕ) (r : Row) (hs : List (ℕ × Interval)) → fold (λ r h. raised_row_by own sender h r) r hs ≡ record { base = r.base; kept = r.kept; known = fold (raised_by own sender) r.known hs }
+pub told_by : (own sender : ℕ) (r : Row) (hs : List (ℕ × Interval)) → fold (λ r h. raised_row_by own sender h r) r hs ≡ record r { known = fold (raised_by own sender) r.known hs }
 told_by own sender r [] = refl
 told_by own sender r (h ∷ hs) = told_by own sender (raised_row_by own sender h r) hs

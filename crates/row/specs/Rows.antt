@@ -8,14 +8,14 @@ use Rattle.row.specs.Entries.{no_row, raised}
 use Rattle.row.specs.Passes.{raised_by}
 
 abbrev pub raised_row : ℕ → ℕ → ℕ → Row → Row
-raised_row z q to r = record { base = r.base; kept = r.kept; known = raised r.known z q to }
+raised_row z q to r = record r { known = raised r.known z q to }
 
 abbrev pub stepped_row : (ℤ → ℕ → ℤ → ℤ) → Action → Row → Row
-stepped_row steps x r = record { base = r.base; kept = steps r.kept x.operation x.amount; known = r.known }
+stepped_row steps x r = record r { kept = steps r.kept x.operation x.amount }
 
 -- the kept figure is the base again
 abbrev pub restarted : Row → Row
-restarted r = record { base = r.base; kept = r.base; known = r.known }
+restarted r = record r { kept = r.base }
 
 -- a change to the row of an article, where there is one
 abbrev pub changed_row : (Row → Row) → List Row → ℕ → List Row
@@ -43,7 +43,7 @@ reworked_rows steps rows = stepped_rows steps (map restarted rows)
 
 -- this site and the sender have what an interval on the row's article carries
 abbrev pub raised_row_by : ℕ → ℕ → ℕ × Interval → Row → Row
-raised_row_by own sender h r = record { base = r.base; kept = r.kept; known = raised_by own sender r.known h }
+raised_row_by own sender h r = record r { known = raised_by own sender r.known h }
 
 -- the same to the row of the interval's article
 abbrev pub raised_rows : ℕ → ℕ → List Row → ℕ × Interval → List Row

@@ -1,7 +1,8 @@
-ghost use Rattle.std.specs.Prelude.{◌≡◌, if◌then◌else◌, ◌+◌, ◌≤◌, length, replicate, fold, map};
+ghost use Rattle.std.specs.Prelude.{◌≡◌, if◌then◌else◌, length, replicate, fold, map};
 ghost use Rattle.std.specs.List.{range_with_len};
 ghost use Rattle.std.specs.Fn.{FnOnceReturnsAtMut};
 ghost use Rattle.action.specs.Order.{placed};
+ghost use Rattle.history.specs.Room.{Fits};
 ghost use Rattle.message.specs.Found.{first_place, told};
 ghost use Rattle.message.specs.Walks.{records_in, intervals_of};
 ghost use Rattle.row.specs.Entries.{start_row, entry_in};
@@ -90,8 +91,8 @@ impl Ledger {
     /// Puts the message's new actions into the history, each at its place in the order of actions.
     pub fn insert_new<H: History>(&self, history: &mut H, bytes: &[u8])
         requires sorted { Sorted (H.items history.old) }
-        requires room { length (H.items history.old) + length (new_actions self.now.rows self.now.setup.own bytes.now)
-            ≤ H.room history.old }
+        requires room { Fits (H.room history.old) (H.items history.old)
+            (new_actions self.now.rows self.now.setup.own bytes.now) }
         ensures list { H.items history.new
             ≡ fold placed (H.items history.old) (new_actions self.now.rows self.now.setup.own bytes.now) }
         ensures fixed { H.room history.new ≡ H.room history.old }

@@ -1,6 +1,7 @@
-ghost use Rattle.std.specs.Prelude.{◌≡◌, ◌+◌, ◌<◌, ◌≤◌, ◌++◌, length, slice_index_or};
+ghost use Rattle.std.specs.Prelude.{◌≡◌, ◌<◌, [], ◌∷◌, ◌++◌, length, slice_index_or};
 ghost use Rattle.std.specs.List.{remove};
 ghost use Rattle.action.specs.Order.{placed, place_of};
+ghost use Rattle.history.specs.Room.{Fits};
 ghost use Rattle.row.specs.Sorting.{Sorted};
 
 use action::Action;
@@ -8,7 +9,7 @@ use history::History;
 
 /// Puts the actions at the end of the history, which has room for them.
 pub fn append<H: History>(history: &mut H, actions: &[Action])
-    requires { length (H.items history.old) + length actions.now ≤ H.room history.old }
+    requires { Fits (H.room history.old) (H.items history.old) actions.now }
     ensures list { H.items history.new ≡ H.items history.old ++ actions.now }
     ensures fixed { H.room history.new ≡ H.room history.old }
 {
@@ -21,7 +22,7 @@ pub fn append<H: History>(history: &mut H, actions: &[Action])
 // Puts the action at its place in the history, which stays sorted.
 #[tactic(auto, using(crate::proofs::Sorting::placed_sorted))]
 pub(crate) fn insert_in_order<H: History>(history: &mut H, action: &Action)
-    requires room { length (H.items history.old) < H.room history.old }
+    requires room { Fits (H.room history.old) (H.items history.old) (action.now ∷ []) }
     requires sorted { Sorted (H.items history.old) }
     ensures sorted { Sorted (H.items history.new) }
     ensures list { H.items history.new ≡ placed (H.items history.old) action.now }

@@ -1,5 +1,6 @@
-use Rattle.std.proofs.Common.{◌≡◌, ◌+◌, ◌≤◌, length, fold, filter}
+use Rattle.std.proofs.Common.{◌≡◌, fold, filter}
 use Rattle.action.specs.Order.{placed}
+use Rattle.history.specs.Room.{Fits}
 use Rattle.row.specs.Passes.{is_new_in, new_actions}
 use Rattle.row.specs.Sorting.{Sorted}
 use Rattle.row.proofs.ledger.Ledger.insert_new.Given as goal
@@ -12,6 +13,6 @@ invariant-loop-action g l =
     record {
       list : fold placed (items l.history) left ≡ fold placed (items l.initial.history) (new_actions l.self.rows l.self.setup.own l.bytes);
       sorted : Sorted (items l.history);
-      room : length (items l.history) + length left ≤ g.H.History.room l.history;
+      room : Fits (g.H.History.room l.history) (items l.history) left;
       fixed : g.H.History.room l.history ≡ g.H.History.room l.initial.history;
     }
