@@ -12,7 +12,7 @@ use Rattle.table.specs.View.{View, row}
 
 module _ (kind : Meaning) (v : View) (a : ℕ) where
   abbrev worked : Bool → Row → Row
-  worked here r = record { base = cond here (working kind.steps r.base (olds v a)) r.base; kept = r.kept; known = r.known }
+  worked here r = record r { base = cond here (working kind.steps r.base (olds v a)) r.base }
 
   abbrev after : List Row
   after = set v.rows a (worked true (row v a))

@@ -30,10 +30,8 @@ module _ (kind : Meaning) (v : View) where
 
   -- a row with its figure worked from the given one
   abbrev worked : Bool → ℕ → Row → Row
-  worked commutes a r = record {
-    base = r.base;
+  worked commutes a r = record r {
     kept = cond commutes (working kind.steps r.kept (on a v.pending)) (working kind.steps r.base (on a (v.history ++ v.pending)));
-    known = r.known;
   }
 
   each : (commutes : Bool) (a : ℕ) → a < length v.rows → get_or (worked_rows commutes) a no_row ≡ worked commutes a (get_or posted a no_row)

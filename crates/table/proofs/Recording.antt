@@ -1,5 +1,5 @@
 -- What taking a message does to the rows. Assumes nothing.
-use Rattle.std.proofs.Common.{◌≡◌, ℕ, ◌<◌, Bool, true, false, cond, eqb, List, [], length, ℤ, get_or, fold, filter, sym, refl, ap, ◌∙◌, arith}
+use Rattle.std.proofs.Common.{◌≡◌, ℕ, ◌<◌, Bool, true, false, cond, eqb, List, [], length, get_or, fold, filter, sym, refl, ap, ◌∙◌, arith}
 use Rattle.action.specs.Order.{placed}
 use Rattle.kind.specs.Meaning.{Meaning}
 use Rattle.kind.specs.Working.{on, working}
@@ -47,13 +47,16 @@ module _ (kind : Meaning) (v : View) (m : Message) where
   abbrev hs_on : ℕ → List (ℕ × Interval)
   hs_on a = filter (λ h. eqb h.0 a) hs
 
-  row_told : (rows : List Row) (a : ℕ) → a < length rows → get_or (told rows) a no_row ≡ record { base = (get_or rows a no_row).base; kept = (get_or rows a no_row).kept; known = fold (raised_by own m.sender) (get_or rows a no_row).known (hs_on a) }
+  -- a row with its entries raised by the intervals on its article
+  abbrev told_row : ℕ → Row → Row
+  told_row a r = record r { known = fold (raised_by own m.sender) r.known (hs_on a) }
+
+  row_told : (rows : List Row) (a : ℕ) → a < length rows → get_or (told rows) a no_row ≡ told_row a (get_or rows a no_row)
   row_told rows a within =
       row_on_articles (λ h. h.0) (raised_row_by own m.sender) rows hs a within ∙ told_by own m.sender (get_or rows a no_row) (hs_on a)
 
   abbrev changed : Bool → ℕ → Row → Row
-  changed commutes a r = record {
-    base = r.base;
+  changed commutes a r = record r {
     kept = cond commutes (working kind.steps r.kept (on a (news v m))) (working kind.steps r.base (on a (taken_history v m)));
     known = fold (raised_by own m.sender) r.known (hs_on a);
   }
@@ -73,9 +76,9 @@ module _ (kind : Meaning) (v : View) (m : Message) where
 
   each : (commutes : Bool) (a : ℕ) → a < length v.rows → get_or (recorded commutes) a no_row ≡ changed commutes a (get_or v.rows a no_row)
   each true a within =
-      row_told (stepped_rows kind.steps v.rows (news v m)) a (omega (arith, length_stepped kind.steps v.rows (news v m))) ∙ ap (λ (r : Row). record { base = r.base; kept = r.kept; known = fold (raised_by own m.sender) r.known (hs_on a) }) (row_stepped kind.steps v.rows (news v m) a within)
+      row_told (stepped_rows kind.steps v.rows (news v m)) a (omega (arith, length_stepped kind.steps v.rows (news v m))) ∙ ap (told_row a) (row_stepped kind.steps v.rows (news v m) a within)
   each false a within =
-      row_reworked kind.steps (told v.rows) (taken_history v m) a (omega (arith, long_told v.rows)) ∙ ap (λ (r : Row). record { base = r.base; kept = working kind.steps r.base (on a (taken_history v m)); known = r.known }) (row_told v.rows a within)
+      row_reworked kind.steps (told v.rows) (taken_history v m) a (omega (arith, long_told v.rows)) ∙ ap (λ (r : Row). record r { kept = working kind.steps r.base (on a (taken_history v m)) }) (row_told v.rows a within)
 
   pub rows_recorded : recorded kind.commutes ≡ each_row (taken_row kind v m) 0 v.rows
   rows_recorded = by_rows (taken_row kind v m) v.rows (recorded kind.commutes) (long kind.commutes) (each kind.commutes)
@@ -91,4 +94,4 @@ module _ (kind : Meaning) (v : View) (m : Message) where
       at : (a : ℕ) → a < length v.rows → get_or (told v.rows) a no_row ≡ taken_row kind v m a (get_or v.rows a no_row)
       at a within =
           let r = get_or v.rows a no_row in
-          row_told v.rows a within ∙ ap (λ (k : ℤ). record { base = r.base; kept = k; known = fold (raised_by own m.sender) r.known (hs_on a) }) (kept r a (worked a within) kind.commutes)
+          row_told v.rows a within ∙ ap (λ k. record (told_row a r) { kept = k }) (kept r a (worked a within) kind.commutes)

@@ -10,6 +10,7 @@ use Rattle.action.specs.declared.refusal.Refusal.{Refusal}
 use Rattle.action.specs.declared.setup.Setup.{Setup}
 use Rattle.action.specs.Lawful.{unless}
 use Rattle.action.proofs.Sequence.{ascending_append}
+use Rattle.history.specs.Room.{Fits, Room}
 use Rattle.kind.specs.Meaning.{Meaning}
 use Rattle.kind.specs.Working.{on, working}
 use Rattle.kind.proofs.Workings.{on_append, working_append}
@@ -19,6 +20,7 @@ use Rattle.row.specs.Entries.{at, no_row, raised, start_row}
 use Rattle.row.proofs.RowLaws.{by_row, length_each_row, row_each, row_past}
 use Rattle.table.specs.declared.table_fault.TableFault.{TableFault}
 use Rattle.table.specs.declared.ticket.Ticket.{Ticket}
+use Rattle.table.specs.Room.{room_refusal}
 use Rattle.table.specs.Sound.{AllWaiting, Fitting, Sound, Square, Waiting}
 use Rattle.table.specs.Transactions.{Abandoned, Committed, Opened, Wrote, abandoned, committed, committed_row, holds, latest, new_action, next_time, opened, with_transaction, written}
 use Rattle.table.specs.View.{View, entry, fresh, row}
@@ -30,11 +32,15 @@ pub passed : (b : Bool) (r : Refusal) (rest : Option Refusal) → unless b r res
 passed true r rest h = (refl, h)
 passed false r rest h = absurd (let z : ◌≡◌ {A = ℕ} 0 1 = cc in omega arith)
 
+-- where nothing refuses them, there is room for new actions
+pub room_for : (v : View) (new : List Action) → room_refusal v new ≡ None → Fits v.room v.history new
+room_for v new h = leb-true (length v.history + length new) v.room.places (passed _ _ _ h).0
+
 -- NEW
 
-module _ (kind : Meaning) (setup : Setup) (capacity : ℕ) (few_places : capacity ≤ 1024) (start_fits : SFits w64 kind.starts) where
+module _ (kind : Meaning) (setup : Setup) (room : Room) (few_places : room.places ≤ 1024) (start_fits : SFits w64 kind.starts) where
   abbrev first : View
-  first = fresh kind setup capacity
+  first = fresh kind setup room
 
   fresh_row : (P : Row → Type 0) → P (start_row kind.starts) → P no_row → (a : ℕ) → P (row first a)
   fresh_row P s n a =
@@ -102,7 +108,7 @@ module _ (kind : Meaning) (v : View) (s : Sound kind v) where
 
 -- COMMIT
 
-module _ (kind : Meaning) (v : View) (s : Sound kind v) (free : length v.history + length v.pending ≤ v.capacity) where
+module _ (kind : Meaning) (v : View) (s : Sound kind v) (free : Fits v.room v.history v.pending) where
   abbrev own : ℕ
   own = v.setup.own
 
@@ -240,5 +246,4 @@ module _ (kind : Meaning) (v w : View) (s : Sound kind v) where
   commit_keeps t b after (Err e) h = subst (Sound kind) (sym h.2) s
   commit_keeps t b after (Ok r) h =
       let held = passed (holds kind v t) _ _ h.0 in
-      let free = passed _ _ _ held.1 in
-      subst (Sound kind) (sym h.3) (committed_sound kind v s (leb-true (length v.history + length v.pending) v.capacity free.0))
+      subst (Sound kind) (sym h.3) (committed_sound kind v s (room_for v v.pending held.1))

@@ -1,17 +1,17 @@
 -- A table that took a message: what the checks say, its entries and its new actions, and that it is sound.
 -- Assumes nothing.
-use Rattle.std.proofs.Common.{◌≡◌, ℕ, ◌+◌, ◌<◌, ◌≤◌, max, Bool, true, false, cond, eqb, leb, ◌⊎◌, List, [], length, ℤ, Some, None, Ok, Err, filter, Option, Result, sym, refl, ap, ◌∙◌, subst, inl, inr, ⊎_elim, arith, w64, SFits}
+use Rattle.std.proofs.Common.{◌≡◌, ℕ, ◌<◌, ◌≤◌, max, Bool, true, false, cond, eqb, ◌⊎◌, List, [], length, ℤ, Some, None, Ok, Err, filter, Option, Result, sym, refl, ap, ◌∙◌, subst, inl, inr, ⊎_elim, arith, w64, SFits}
 use Rattle.std.specs.List.{ContainsAt as Has, AllByRecursion}
 use Rattle.std.proofs.ByRecursion.{All-from_get_or, All-get_or, all-has, all_kept_by, All-weaker, kept_by_passes}
-use Rattle.std.proofs.lemmas.Bool.{cases_eq, leb-true, ltb-false, ltb-true}
+use Rattle.std.proofs.lemmas.Bool.{cases_eq, ltb-false, ltb-true}
 use Rattle.action.specs.declared.action.Action.{Action}
 use Rattle.action.specs.declared.refusal.Refusal.{Refusal}
 use Rattle.action.specs.declared.setup.Setup.{Setup}
-use Rattle.action.specs.Lawful.{by_history, unless}
 use Rattle.action.specs.Order.{Ascending}
 use Rattle.action.proofs.Placing.{folded_placed_all, folded_placed_ranked, length_folded_placed}
 use Rattle.action.proofs.Pairs.{pairwise_kept}
 use Rattle.action.proofs.Ranks.{Ranked, ranked_unless}
+use Rattle.history.specs.Room.{Fits}
 use Rattle.kind.specs.Meaning.{Meaning}
 use Rattle.kind.specs.Working.{knows_action, on, working}
 use Rattle.kind.proofs.Workings.{working_placed}
@@ -24,11 +24,12 @@ use Rattle.row.specs.declared.row.Row.{Row}
 use Rattle.row.specs.Entries.{at, no_row}
 use Rattle.row.proofs.RowLaws.{by_row, length_each_row, row_each}
 use Rattle.table.specs.declared.table_fault.TableFault.{TableFault}
+use Rattle.table.specs.Room.{room_refusal}
 use Rattle.table.specs.Sound.{AllWaiting, Fitting, Sound, Square}
 use Rattle.table.specs.Taking.{Took, highest, is_ahead, is_behind, is_new, news, take_refusal, taken, taken_history, taken_row, unless_found}
 use Rattle.table.specs.View.{View, entry, row}
 use Rattle.table.proofs.Greatest.{greatest, greatest_from, greatest_ge, greatest_le}
-use Rattle.table.proofs.Soundness.{passed}
+use Rattle.table.proofs.Soundness.{room_for}
 use Rattle.table.proofs.Stretching.{at_told, at_untold, highest_ge, highest_le, square_told, up_to_highest}
 
 -- THE CHECKS
@@ -41,17 +42,14 @@ module _ (v : View) (m : Message) (passes : take_refusal v m ≡ None) where
   abbrev mine : ℕ
   mine = v.setup.own
 
-  abbrev full : Option Refusal
-  full = unless (leb (length v.history + length (news v m)) v.capacity) (by_history 16 v.capacity) None
-
   abbrev ahead : Option Refusal
-  ahead = unless_found (first_place (is_ahead v) 0 0 (records m)) 14 full
+  ahead = unless_found (first_place (is_ahead v) 0 0 (records m)) 14 (room_refusal v (news v m))
 
   first : (first_place (is_behind v) 0 0 (records m) ≡ None) × (ahead ≡ None)
   first = unfound (first_place (is_behind v) 0 0 (records m)) 13 ahead passes
 
-  second : (first_place (is_ahead v) 0 0 (records m) ≡ None) × (full ≡ None)
-  second = unfound (first_place (is_ahead v) 0 0 (records m)) 14 full first.1
+  second : (first_place (is_ahead v) 0 0 (records m) ≡ None) × (room_refusal v (news v m) ≡ None)
+  second = unfound (first_place (is_ahead v) 0 0 (records m)) 14 _ first.1
 
   pub not_behind : AllByRecursion (λ h. is_behind v h.0 h.1 ≡ false) (told_intervals m)
   not_behind = subst (AllByRecursion (λ h. is_behind v h.0 h.1 ≡ false)) (told_intervals_of 0 m) (none_found (is_behind v) 0 0 (records m) first.0)
@@ -61,8 +59,8 @@ module _ (v : View) (m : Message) (passes : take_refusal v m ≡ None) where
   begun_within =
       All-weaker (λ h. is_behind v h.0 h.1 ≡ false) (λ h. h.1.from ≤ entry v h.0 mine h.1.site) (λ h k. ltb-false (entry v h.0 mine h.1.site) h.1.from k) (told_intervals m) not_behind
 
-  pub room_left : length v.history + length (news v m) ≤ v.capacity
-  room_left = leb-true (length v.history + length (news v m)) v.capacity (passed (leb (length v.history + length (news v m)) v.capacity) (by_history 16 v.capacity) None second.1).0
+  pub room_left : Fits v.room v.history (news v m)
+  room_left = room_for v (news v m) second.1
 
 -- no interval goes past the last time that there is
 pub latest_in_time : (kind : Meaning) (setup : Setup) (m : Message) → LawfulMessage kind setup m → (t : ℕ) → t ≤ 4000000000 → greatest (λ (h : ℕ × Interval). h.1.to) t (told_intervals m) ≤ 4000000000

@@ -29,21 +29,12 @@ olds v a = filter (is_old v a) v.history
 
 -- the article's base is worked by them; its kept figure and entries stay
 abbrev pub archived_row : Meaning → View → ℕ → ℕ → Row → Row
-archived_row kind v a b r = record {
-  base = cond (b == a) (working kind.steps r.base (olds v a)) r.base;
-  kept = r.kept;
-  known = r.known;
-}
+archived_row kind v a b r = record r { base = cond (b == a) (working kind.steps r.base (olds v a)) r.base }
 
 abbrev pub archived : Meaning → View → ℕ → View
-archived kind v a = record {
-  setup = v.setup;
-  clock = v.clock;
-  is_open = v.is_open;
-  pending = v.pending;
+archived kind v a = record v {
   rows = each_row (archived_row kind v a) 0 v.rows;
   history = filter (λ x. not (is_old v a x)) v.history;
-  capacity = v.capacity;
 }
 
 abbrev pub Archived : Meaning → View → ℕ → Result ℕ TableFault → View → Type 0

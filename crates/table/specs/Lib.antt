@@ -3,6 +3,7 @@ pub mod Archiving
 pub mod Faults
 pub mod Offers
 pub mod Outcomes
+pub mod Room
 pub mod Sound
 pub mod Taking
 pub mod Transactions

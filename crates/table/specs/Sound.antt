@@ -39,10 +39,10 @@ abbrev pub Square : List (List ℕ) → Type 0
 Square known = (length known ≡ 8) × AllByRecursion (λ entries. length entries ≡ 8) known
 
 pub record Sound (kind : Meaning) (v : View) : Type 0 where
-  -- the history is in strict order and within its capacity
+  -- the history is in strict order and within its room
   pub ordered : Ascending v.history
-  pub held : length v.history ≤ v.capacity
-  pub few_places : v.capacity ≤ 1024
+  pub held : length v.history ≤ v.room.places
+  pub few_places : v.room.places ≤ 1024
   pub fitting : AllByRecursion (Fitting kind v.setup) v.history
   -- the reception vector has reached every action of the history
   pub reached : AllByRecursion (λ x. x.time ≤ entry v x.article v.setup.own x.coordinator) v.history

@@ -1,8 +1,8 @@
 -- What take does to a table. Assumes nothing.
-use Rattle.std.specs.Prelude.{◌≡◌, ℕ, ◌+◌, Bool, true, false, ◌&&◌, List, length, Some, None, Ok, Err, fold, filter, Option, Result, ◌==◌, nat_eq, nat_le}
+use Rattle.std.specs.Prelude.{◌≡◌, ℕ, Bool, true, false, ◌&&◌, List, length, Some, None, Ok, Err, fold, filter, Option, Result, ◌==◌, nat_eq}
 use Rattle.action.specs.declared.action.Action.{Action}
 use Rattle.action.specs.declared.refusal.Refusal.{Refusal}
-use Rattle.action.specs.Lawful.{by_history, by_table, unless}
+use Rattle.action.specs.Lawful.{by_table}
 use Rattle.action.specs.Order.{placed}
 use Rattle.kind.specs.Meaning.{Meaning}
 use Rattle.message.specs.declared.record.Interval.{Interval}
@@ -17,6 +17,7 @@ use Rattle.row.specs.Passes.{is_ahead_in, is_behind_in, is_new_in, latest_to, ra
 use Rattle.row.specs.Entries.{each_row}
 use Rattle.table.specs.declared.table_fault.TableFault.{TableFault}
 use Rattle.table.specs.Faults.{shown}
+use Rattle.table.specs.Room.{room_refusal}
 use Rattle.table.specs.Transactions.{figure_after}
 use Rattle.table.specs.View.{View}
 
@@ -45,7 +46,7 @@ abbrev pub take_refusal : View → Message → Option Refusal
 take_refusal v m =
     unless_found (first_place (is_behind v) 0 0 (records m)) 13
     (unless_found (first_place (is_ahead v) 0 0 (records m)) 14
-    (unless (nat_le (length v.history + length (news v m)) v.capacity) (by_history 16 v.capacity) None))
+    (room_refusal v (news v m)))
 
 -- how far the intervals go for an article and a site, 0 where there are none
 abbrev pub highest : ℕ → ℕ → List (ℕ × Interval) → ℕ
@@ -55,22 +56,17 @@ abbrev pub taken_history : View → Message → List Action
 taken_history v m = fold placed v.history (news v m)
 
 abbrev pub taken_row : Meaning → View → Message → ℕ → Row → Row
-taken_row kind v m a r = record {
-  base = r.base;
+taken_row kind v m a r = record r {
   kept = figure_after kind a r (taken_history v m) (news v m);
   known = fold (raised_by v.setup.own m.sender) r.known (filter (λ h. nat_eq h.0 a) (told_intervals m));
 }
 
 -- the clock goes up to the latest end of an interval
 abbrev pub taken : Meaning → View → Message → View
-taken kind v m = record {
-  setup = v.setup;
+taken kind v m = record v {
   clock = latest_to v.clock (told_intervals m);
-  is_open = v.is_open;
-  pending = v.pending;
   rows = each_row (taken_row kind v m) 0 v.rows;
   history = taken_history v m;
-  capacity = v.capacity;
 }
 
 -- WHY A TAKE IS REFUSED

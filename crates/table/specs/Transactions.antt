@@ -3,7 +3,7 @@ use Rattle.std.specs.Prelude.{◌≡◌, ℕ, ◌+◌, max, Bool, true, false, c
 use Rattle.std.specs.List.{flat_map, range_with_len}
 use Rattle.action.specs.declared.action.Action.{Action}
 use Rattle.action.specs.declared.refusal.Refusal.{Refusal}
-use Rattle.action.specs.Lawful.{by_history, by_table, unless}
+use Rattle.action.specs.Lawful.{by_table, unless}
 use Rattle.kind.specs.Meaning.{Meaning}
 use Rattle.kind.specs.Working.{on, working}
 use Rattle.message.specs.Buffer.{overwritten}
@@ -13,6 +13,7 @@ use Rattle.row.specs.Entries.{each_row, raised}
 use Rattle.table.specs.declared.table_fault.TableFault.{TableFault}
 use Rattle.table.specs.declared.ticket.Ticket.{Ticket}
 use Rattle.table.specs.Faults.{shown}
+use Rattle.table.specs.Room.{room_refusal}
 use Rattle.table.specs.View.{View, entry}
 
 -- OPEN
@@ -26,15 +27,7 @@ ticket kind v = record { group = v.setup.group; kind = kind.number; site = v.set
 
 -- the same table, but for its transaction
 abbrev pub with_transaction : Bool → List Action → View → View
-with_transaction is_open pending v = record {
-  setup = v.setup;
-  clock = v.clock;
-  is_open = is_open;
-  pending = pending;
-  rows = v.rows;
-  history = v.history;
-  capacity = v.capacity;
-}
+with_transaction is_open pending v = record v { is_open = is_open; pending = pending }
 
 abbrev pub opened : View → View
 opened v = with_transaction true v.pending v
@@ -100,8 +93,7 @@ Abandoned kind v t (Err e) w = (abandon_refusal kind v t ≡ Some (shown e.0)) �
 
 abbrev pub commit_refusal : Meaning → View → Ticket → Option Refusal
 commit_refusal kind v t =
-    unless (holds kind v t) (by_table 3 0)
-    (unless (nat_le (length v.history + length v.pending) v.capacity) (by_history 16 v.capacity) None)
+    unless (holds kind v t) (by_table 3 0) (room_refusal v v.pending)
 
 -- the time of the latest action on the article, 0 where there is none
 abbrev pub latest : ℕ → List Action → ℕ
@@ -114,21 +106,18 @@ figure_after kind a r history new =
     cond kind.commutes (working kind.steps r.kept (on a new)) (working kind.steps r.base (on a history))
 
 abbrev pub committed_row : Meaning → View → ℕ → Row → Row
-committed_row kind v a r = record {
-  base = r.base;
+committed_row kind v a r = record r {
   kept = figure_after kind a r (v.history ++ v.pending) v.pending;
   known = raised r.known v.setup.own v.setup.own (latest a v.pending);
 }
 
 abbrev pub committed : Meaning → View → View
-committed kind v = record {
-  setup = v.setup;
+committed kind v = record v {
   clock = v.clock + length v.pending;
   is_open = false;
   pending = [];
   rows = each_row (committed_row kind v) 0 v.rows;
   history = v.history ++ v.pending;
-  capacity = v.capacity;
 }
 
 abbrev pub is_written : View → ℕ → Bool

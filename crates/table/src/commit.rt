@@ -1,4 +1,5 @@
-ghost use Rattle.std.specs.Prelude.{◌≡◌, ℕ, ◌+◌, ◌<◌, ◌≤◌, List, length};
+ghost use Rattle.std.specs.Prelude.{◌≡◌, ℕ, ◌<◌, List, length};
+ghost use Rattle.history.specs.Room.{Fits};
 ghost use Rattle.message.specs.Buffer.{overwritten};
 ghost use Rattle.message.specs.Lawful.{LawfulMessage};
 ghost use Rattle.table.specs.Outcomes.{OneOutcome};
@@ -59,7 +60,7 @@ impl<H: History> Store<H> {
     // Puts the pending actions into the history, with all that this changes, and ends the transaction.
     fn post<K: Kind>(&mut self)
         requires sound { Sound K.means self.old }
-        requires room { length self.old.history + length self.old.pending ≤ self.old.capacity }
+        requires room { Fits self.old.room self.old.history self.old.pending }
         ensures { self.new ≡ committed K.means self.old }
     {
         let Store { state, history } = self;

@@ -1,5 +1,6 @@
-ghost use Rattle.std.specs.Prelude.{◌+◌, length, nat_le};
-ghost use Rattle.table.specs.Faults.{Passes};
+ghost use Rattle.std.specs.Prelude.{◌≡◌, List, length};
+ghost use Rattle.action.specs.declared.action.Action.{Action as AnAction};
+ghost use Rattle.table.specs.Room.{Admits, room_refusal};
 
 use crate::state::State;
 use history::{History, HistoryFault};
@@ -22,10 +23,9 @@ impl<H: History> Model for Store<H> {
 }
 
 impl<H: History> Store<H> {
-    // Refuses where the history has no room for so many more.
+    // Refuses so many new actions where the history has not room for them all.
     pub(crate) fn check_room(&self, more: usize) -> Result<(), HistoryFault>
-        ensures { Passes (nat_le (length self.now.history + more) self.now.capacity)
-            (HistoryFault.Full self.now.capacity) result }
+        ensures { (new : List AnAction) → length new ≡ more → Admits (room_refusal self.now new) result }
     {
         let capacity = self.history.capacity();
         if more > capacity - self.history.count() {

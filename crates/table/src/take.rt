@@ -1,4 +1,5 @@
-ghost use Rattle.std.specs.Prelude.{◌≡◌, ◌+◌, ◌≤◌, length};
+ghost use Rattle.std.specs.Prelude.{◌≡◌, length};
+ghost use Rattle.history.specs.Room.{Fits};
 ghost use Rattle.message.specs.Format.{Message, records};
 ghost use Rattle.message.specs.Walks.{records_in};
 ghost use Rattle.row.specs.Passes.{new_actions};
@@ -49,7 +50,7 @@ impl<H: History> Store<H> {
     fn absorb<K: Kind>(&mut self, bytes: &[u8], new: usize)
         requires sound { Sound K.means self.old }
         requires counted { new ≡ length (new_actions self.old.rows self.old.setup.own bytes.now) }
-        requires room { length self.old.history + new ≤ self.old.capacity }
+        requires room { Fits self.old.room self.old.history (new_actions self.old.rows self.old.setup.own bytes.now) }
         ensures { (m : Message) → records_in bytes.now ≡ records m → self.new ≡ taken K.means self.old m }
     {
         let Store { state, history } = self;

@@ -32,14 +32,11 @@ returns-then-new-eq0 g c m is =
     let rows : c.raise_all-state.new.self.rows ≡ (taken kind v m).rows = c.raise_all-state.ensures.rows ∙ (λ i. fold (raised_rows own (sender i)) v.rows (hs i)) ∙ rows_raised kind v m none (λ a within. sound.worked a (omega (arith, within, sound.each_article))) in
     let clock : c.raise_all-state.result ≡ (taken kind v m).clock = c.raise_all-state.ensures.times ∙ ap (latest_to v.clock) hs in
     let history : v.history ≡ taken_history v m = ap (fold placed v.history) (sym none) in
-    let after : ◌≡◌ {A = View} _ (taken kind v m) = λ i. record {
+    let after : ◌≡◌ {A = View} _ (taken kind v m) = λ i. record v {
       setup = c.raise_all-state.ensures.fixed i;
       clock = clock i;
-      is_open = v.is_open;
-      pending = v.pending;
       rows = rows i;
       history = history i;
-      capacity = v.capacity;
     } in
     after ∙ ap (λ (v : View). taken kind v m) c.self.view_is
 
@@ -55,13 +52,11 @@ returns g c m is =
     let history : g.H.History.items c.insert_new.new.history ≡ taken_history v m = c.insert_new.ensures.list ∙ ap (fold _ v.history) new in
     let rows : c.record-state.new.self.rows ≡ (taken kind v m).rows = c.record-state.ensures.rows ∙ (λ i. cond kind.commutes (fold (raised_rows own (sender i)) (stepped_rows kind.steps v.rows (new i)) (hs i)) (reworked_rows kind.steps (fold (raised_rows own (sender i)) v.rows (hs i)) (history i))) ∙ recorded_by kind v m kind.commutes ∙ rows_recorded kind v m in
     let clock : c.record-state.result ≡ (taken kind v m).clock = c.record-state.ensures.times ∙ ap (latest_to v.clock) hs in
-    let after : ◌≡◌ {A = View} _ (taken kind v m) = λ i. record {
+    let after : ◌≡◌ {A = View} _ (taken kind v m) = λ i. record v {
       setup = c.record-state.ensures.fixed i;
       clock = clock i;
-      is_open = v.is_open;
-      pending = v.pending;
       rows = rows i;
       history = history i;
-      capacity = c.insert_new.ensures.fixed i;
+      room = c.insert_new.ensures.fixed i;
     } in
     after ∙ ap (λ (v : View). taken kind v m) c.self.view_is

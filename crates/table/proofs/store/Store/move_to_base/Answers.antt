@@ -26,15 +26,11 @@ returns-clause-after g c =
     let old : SFits w64 r.base = search rules in
     let worked : base ≡ working kind.steps r.base (olds v a) = c.move_actions-gone.ensures.figure ∙ (λ i. working kind.steps (to_z-of_z w64 r.base old i) (filter (is_up_to a (time i)) v.history)) in
     let new : SFits w64 base = subst (SFits w64) (sym worked) (working_fits kind.steps g.met.K.Kind.step_fits r.base (olds v a) old) in
-    let rows : set v.rows at (record { base = to_z w64 (of_z w64 base); kept = r.kept; known = r.known }) ≡ (archived kind v a).rows = ap (λ f. set v.rows at (record { base = f; kept = r.kept; known = r.known })) (to_z-of_z w64 base new ∙ worked) ∙ ap (λ n. set v.rows n (record { base = working kind.steps (row v n).base (olds v a); kept = (row v n).kept; known = (row v n).known })) c.from-at.ensures ∙ rows_archived kind v a in
+    let rows : set v.rows at (record r { base = to_z w64 (of_z w64 base) }) ≡ (archived kind v a).rows = ap (λ f. set v.rows at (record r { base = f })) (to_z-of_z w64 base new ∙ worked) ∙ ap (λ n. set v.rows n (let s = row v n in record s { base = working kind.steps s.base (olds v a) })) c.from-at.ensures ∙ rows_archived kind v a in
     let history : g.H.History.items c.move_actions-gone.new.history ≡ (archived kind v a).history = c.move_actions-gone.ensures.list ∙ ap (λ t. filter (λ x. not (is_up_to a t x)) v.history) time in
-    let after : ◌≡◌ {A = View} _ (archived kind v a) = λ i. record {
-      setup = v.setup;
-      clock = v.clock;
-      is_open = v.is_open;
-      pending = v.pending;
+    let after : ◌≡◌ {A = View} _ (archived kind v a) = λ i. record v {
       rows = rows i;
       history = history i;
-      capacity = c.move_actions-gone.ensures.fixed i;
+      room = c.move_actions-gone.ensures.fixed i;
     } in
     after ∙ ap (λ (v : View). archived kind v a) c.self.view_is

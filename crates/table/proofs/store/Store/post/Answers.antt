@@ -16,13 +16,13 @@ returns g c =
     let history : g.H.History.items c.append.new.history ≡ v.history ++ v.pending = c.append.ensures.list ∙ ap (λ l. v.history ++ l) pending in
     let raise : c.raise_posted.new.self.rows ≡ raising v.pending = c.raise_posted.ensures.rows ∙ ap raising pending in
     let rows : c.work.new.self.rows ≡ (committed kind v).rows = c.work.ensures.rows ∙ (λ i. cond kind.commutes (stepped_rows kind.steps (raise i) (pending i)) (reworked_rows kind.steps (raise i) (history i))) ∙ rows_posted kind v in
-    let after : ◌≡◌ {A = View} _ (committed kind v) = λ i. record {
+    let after : ◌≡◌ {A = View} _ (committed kind v) = λ i. record v {
       setup = (c.work.ensures.fixed ∙ c.raise_posted.ensures.fixed) i;
       clock = v.clock + length (pending i);
       is_open = false;
       pending = [];
       rows = rows i;
       history = history i;
-      capacity = c.append.ensures.fixed i;
+      room = c.append.ensures.fixed i;
     } in
     after ∙ ap (committed kind) c.self.view_is
