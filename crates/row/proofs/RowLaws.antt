@@ -6,7 +6,7 @@ use Rattle.action.specs.declared.action.Action.{Action}
 use Rattle.kind.specs.Working.{on, working}
 use Rattle.message.specs.declared.record.Interval.{Interval}
 use Rattle.row.specs.declared.row.Row.{Row}
-use Rattle.row.specs.Rows.{on_article_row, on_row, raised_row, raised_row_by, restarted, reworked_rows, stepped_row, stepped_rows}
+use Rattle.row.specs.Rows.{on_article_row, raised_row, raised_row_by, restarted, reworked_rows, stepped_row, stepped_rows}
 use Rattle.row.specs.Passes.{raised_by}
 use Rattle.row.specs.Entries.{at, each_row, no_row, raised}
 
@@ -53,32 +53,25 @@ module _ {X : Type 0} (article : X → ℕ) (change : X → Row → Row) where
       ap (λ r. fold (λ r x. change x r) r these) (get_or-set_other rows (article x) a _ no_row (λ e. other (sym e))) ∙ sym (ap (λ b. fold (λ r x. change x r) (get_or rows a no_row) (cond b (x ∷ these) these)) (ne_eqb (article x) a other)))
       (cases_eq (article x) a)
 
-module _ (change : Action → Row → Row) where
-  pub length_on_rows : (rows : List Row) (xs : List Action) → length (fold (on_row change) rows xs) ≡ length rows
-  length_on_rows = length_on_articles (λ x. x.article) change
-
-  pub row_on_rows : (rows : List Row) (xs : List Action) (a : ℕ) → a < length rows → get_or (fold (on_row change) rows xs) a no_row ≡ fold (λ r x. change x r) (get_or rows a no_row) (on a xs)
-  row_on_rows = row_on_articles (λ x. x.article) change
-
 -- a row stepped by actions
 pub stepped_by : (steps : ℤ → ℕ → ℤ → ℤ) (r : Row) (xs : List Action) → fold (λ r x. stepped_row steps x r) r xs ≡ record r { kept = working steps r.kept xs }
 stepped_by steps r [] = refl
 stepped_by steps r (x ∷ xs) = stepped_by steps (stepped_row steps x r) xs
 
-module _ (steps : ℤ → ℕ → ℤ → ℤ) (rows : List Row) (xs : List Action) where
-  pub length_stepped : length (stepped_rows steps rows xs) ≡ length rows
-  length_stepped = length_on_rows (stepped_row steps) rows xs
+module _ (steps : ℤ → ℕ → ℤ → ℤ) where
+  pub length_stepped : (rows : List Row) (xs : List Action) → length (stepped_rows steps rows xs) ≡ length rows
+  length_stepped = length_on_articles (λ x. x.article) (stepped_row steps)
 
-  pub row_stepped : (a : ℕ) → a < length rows → get_or (stepped_rows steps rows xs) a no_row ≡ (let r = get_or rows a no_row in record r { kept = working steps r.kept (on a xs) })
-  row_stepped a within = row_on_rows (stepped_row steps) rows xs a within ∙ stepped_by steps (get_or rows a no_row) (on a xs)
+  pub row_stepped : (rows : List Row) (xs : List Action) (a : ℕ) → a < length rows → get_or (stepped_rows steps rows xs) a no_row ≡ (let r = get_or rows a no_row in record r { kept = working steps r.kept (on a xs) })
+  row_stepped rows xs a within =
+      row_on_articles (λ x. x.article) (stepped_row steps) rows xs a within ∙ stepped_by steps (get_or rows a no_row) (on a xs)
 
-module _ (steps : ℤ → ℕ → ℤ → ℤ) (rows : List Row) (xs : List Action) where
-  pub length_reworked : length (reworked_rows steps rows xs) ≡ length rows
-  length_reworked = length_stepped steps (map restarted rows) xs ∙ length-map rows restarted
+  pub length_reworked : (rows : List Row) (xs : List Action) → length (reworked_rows steps rows xs) ≡ length rows
+  length_reworked rows xs = length_stepped (map restarted rows) xs ∙ length-map rows restarted
 
-  pub row_reworked : (a : ℕ) → a < length rows → get_or (reworked_rows steps rows xs) a no_row ≡ (let r = get_or rows a no_row in record r { kept = working steps r.base (on a xs) })
-  row_reworked a within =
-      row_stepped steps (map restarted rows) xs a (omega (arith, length-map rows restarted)) ∙ ap (λ (r : Row). record r { kept = working steps r.kept (on a xs) }) (get_or-map restarted rows a no_row no_row within)
+  pub row_reworked : (rows : List Row) (xs : List Action) (a : ℕ) → a < length rows → get_or (reworked_rows steps rows xs) a no_row ≡ (let r = get_or rows a no_row in record r { kept = working steps r.base (on a xs) })
+  row_reworked rows xs a within =
+      row_stepped (map restarted rows) xs a (omega (arith, length-map rows restarted)) ∙ ap (λ (r : Row). record r { kept = working steps r.kept (on a xs) }) (get_or-map restarted rows a no_row no_row within)
 
 -- an entry of one list raised twice, and of a list of lists
 twice : (row : List ℕ) (q s t : ℕ) → set (set row q (max (get_or row q 0) s)) q (max (get_or (set row q (max (get_or row q 0) s)) q 0) t) ≡ set row q (max (get_or row q 0) (max s t))

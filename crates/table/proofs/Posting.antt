@@ -5,7 +5,7 @@ use Rattle.kind.specs.Working.{on, working}
 use Rattle.row.specs.declared.row.Row.{Row}
 use Rattle.row.specs.Rows.{posted_rows, raised_row, reworked_rows, stepped_rows}
 use Rattle.row.specs.Entries.{each_row, no_row}
-use Rattle.row.proofs.RowLaws.{by_rows, length_on_rows, length_reworked, length_stepped, raised_from, row_on_rows, row_reworked, row_stepped}
+use Rattle.row.proofs.RowLaws.{by_rows, length_on_articles, length_reworked, length_stepped, raised_from, row_on_articles, row_reworked, row_stepped}
 use Rattle.table.specs.Transactions.{committed_row, latest}
 use Rattle.table.specs.View.{View}
 
@@ -19,10 +19,10 @@ module _ (kind : Meaning) (v : View) where
 
   posted_row : (a : ℕ) → a < length v.rows → get_or posted a no_row ≡ raised_row own own (latest a v.pending) (get_or v.rows a no_row)
   posted_row a within =
-      row_on_rows (λ x. raised_row own own x.time) v.rows v.pending a within ∙ raised_from own own (get_or v.rows a no_row) (on a v.pending)
+      row_on_articles (λ x. x.article) (λ x. raised_row own own x.time) v.rows v.pending a within ∙ raised_from own own (get_or v.rows a no_row) (on a v.pending)
 
   long_posted : length posted ≡ length v.rows
-  long_posted = length_on_rows (λ x. raised_row own own x.time) v.rows v.pending
+  long_posted = length_on_articles (λ x. x.article) (λ x. raised_row own own x.time) v.rows v.pending
 
   -- and then with the figures worked, for a commuting kind and for any other
   abbrev worked_rows : Bool → List Row
