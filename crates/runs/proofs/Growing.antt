@@ -1,5 +1,5 @@
 -- One event more: what is left to show of its site, once the book is seen to grow. Assumes nothing.
-use Rattle.std.proofs.Common.{◌≡◌, ℕ, ◌<◌, ◌≤◌, ◌⊎◌, List, ◌∷◌, ◌++◌, map, Ok, Err, sym, ap, ◌∙◌, subst, inl, inr, ⊎_elim, arith}
+use Rattle.std.proofs.Common.{◌≡◌, ℕ, ◌<◌, ◌≤◌, ◌⊎◌, List, ◌∷◌, ◌++◌, map, Ok, sym, ap, ◌∙◌, subst, inl, inr, ⊎_elim, arith}
 use Rattle.std.specs.List.{range_with_len, ContainsAt as Has, AllByRecursion}
 use Rattle.std.proofs.ByRecursion.{All-append, all-has, All-weaker, has_append_left}
 use Rattle.std.proofs.lemmas.Bool.{cases_eq}
@@ -14,7 +14,7 @@ use Rattle.message.proofs.Carried.{told_intervals_lawful}
 use Rattle.table.specs.View.{View, entry}
 use Rattle.runs.specs.Books.{Book, book, greatest, greatest_of}
 use Rattle.runs.specs.Events.{Call, Event, wrote}
-use Rattle.runs.specs.Events.Call.{Opens, Writes, Commits, Abandons, Offers, Takes, Archives}
+use Rattle.runs.specs.Events.Call.{Takes}
 use Rattle.runs.specs.Laws.{CarriesAll, Credits, IsMessageOf, IsTruthful, TrueOrNothing}
 use Rattle.runs.specs.Runs.{Group, Turn}
 use Rattle.runs.proofs.Greatest.{greatest_ge}
@@ -51,14 +51,8 @@ module _ (kind : Meaning) (group : Group) (s : ℕ) (v w : View) (kept : (a z q 
   credits_still z m c = All-weaker (λ h. h.1.to ≤ entry v h.0 z h.1.site) (λ h. h.1.to ≤ entry w h.0 z h.1.site) (λ h k. omega (arith, k, kept h.0 z h.1.site)) (told_intervals m) c
 
   pub absorbed_still : (call : Call) → Absorbed kind group s v call → Absorbed kind group s w call
-  absorbed_still (Opens r) h = tt
-  absorbed_still (Writes t article operation amount r) h = tt
-  absorbed_still (Commits t buffer r after) h = tt
-  absorbed_still (Abandons t r) h = tt
-  absorbed_still (Offers peer article buffer r after) h = tt
   absorbed_still (Takes bytes (Ok n)) h = (h.0, h.1, credits_still s h.0 h.2, credits_still h.0.sender h.0 h.3)
-  absorbed_still (Takes bytes (Err e)) h = tt
-  absorbed_still (Archives article r) h = tt
+  absorbed_still _ h = tt
 
 -- THE BOOK AND THE OTHER SITES
 

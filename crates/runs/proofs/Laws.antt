@@ -4,18 +4,20 @@ use Rattle.kind.specs.Meaning.{Meaning}
 use Rattle.table.specs.View.{View}
 use Rattle.runs.specs.Events.{Call, Event, at}
 use Rattle.runs.specs.Events.Call.{Opens, Writes, Commits, Abandons, Offers, Takes, Archives}
-use Rattle.runs.specs.Laws.{Believed, Counted, Entered, Learned, Level, NoneAhead, Repeated, Truthful}
-use Rattle.runs.specs.Runs.{Group, Ran, Turn}
+use Rattle.runs.specs.Laws.{Counted, EveryRun}
+use Rattle.runs.specs.Runs.{Group, Turn}
 use Rattle.runs.proofs.Archiving.{archive_stands}
 use Rattle.runs.proofs.Beginning.{start_stands}
-use Rattle.runs.proofs.Counting.{counts_each_once, level}
+use Rattle.runs.proofs.Counting.{counts_each_once}
 use Rattle.runs.proofs.Offers.{offer_stands}
 use Rattle.runs.proofs.Opening.{abandon_stands, open_stands, write_stands}
-use Rattle.runs.proofs.Repeating.{repeats}
 use Rattle.runs.proofs.Standing.{Standing}
 use Rattle.runs.proofs.Taking.{take_stands}
 use Rattle.runs.proofs.Transactions.{commit_stands}
-use Rattle.runs.proofs.Truth.{believes_no_more, enters_messages, learns_from_messages, no_site_ahead, tells_the_truth}
+
+-- every run leads to tables that stand, so what holds where tables stand holds of every run
+pub every_run : (kind : Meaning) {law : Group → List Event → (ℕ → View) → Type 0} → EveryRun kind (Standing kind) → ((group : Group) (events : List Event) (views : ℕ → View) → Standing kind group events views → law group events views) → EveryRun kind law
+every_run kind stands holds group events views ran = holds group events views (stands group events views ran)
 
 module _ (kind : Meaning) (small : kind.number ≤ 255) (start_fits : SFits w64 kind.starts) (step_fits : (f : ℤ) (o : ℕ) (a : ℤ) → SFits w64 f → SFits w64 (kind.steps f o a)) (commute : (f : ℤ) (o : ℕ) (a : ℤ) (p : ℕ) (b : ℤ) → SFits w64 f → kind.commutes ≡ true → kind.knows o a ≡ true → kind.knows p b ≡ true → kind.steps (kind.steps f o a) p b ≡ kind.steps (kind.steps f p b) o a) where
   -- one event more, whatever its call
@@ -28,30 +30,9 @@ module _ (kind : Meaning) (small : kind.number ≤ 255) (start_fits : SFits w64 
   event_stands group before s (Takes bytes r) old views st turn = take_stands kind step_fits commute small group before s old views st bytes r turn
   event_stands group before s (Archives article r) old views st turn = archive_stands kind step_fits group before s old views st article r turn
 
-  pub run_stands : (group : Group) (events : List Event) (views : ℕ → View) → Ran kind group events views → Standing kind group events views
+  pub run_stands : EveryRun kind (Standing kind)
   run_stands group [] views ran = start_stands kind start_fits group views ran
   run_stands group (event ∷ before) views (old, ran, turn) = event_stands group before event.site event.call old views (run_stands group before old ran) turn
 
   pub every_counted : Counted kind
-  every_counted group events views ran = counts_each_once kind group events views (run_stands group events views ran)
-
-  pub every_level : Level kind
-  every_level group events views ran a al none = level kind group events views (run_stands group events views ran) a al none
-
-  pub every_repeated : Repeated kind
-  every_repeated group events views ran = repeats kind small group events views (run_stands group events views ran)
-
-  pub every_believed : Believed kind
-  every_believed group events views ran = believes_no_more kind group events views (run_stands group events views ran)
-
-  pub every_none_ahead : NoneAhead kind
-  every_none_ahead group events views ran = no_site_ahead kind group events views (run_stands group events views ran)
-
-  pub every_truthful : Truthful kind
-  every_truthful group events views ran = tells_the_truth kind group events views (run_stands group events views ran)
-
-  pub every_learned : Learned kind
-  every_learned group events views ran = learns_from_messages kind group events views (run_stands group events views ran)
-
-  pub every_entered : Entered kind
-  every_entered group events views ran = enters_messages kind group events views (run_stands group events views ran) small
+  every_counted = every_run kind run_stands (counts_each_once kind)

@@ -82,18 +82,10 @@ module _ (kind : Meaning) (v : View) (sound : Sound kind v) (m : Message) (lawfu
   same_rows =
       sym (by_rows (taken_row kind v m) v.rows v.rows refl (λ a lt.
       let kept = same_kept a (omega (arith, sound.each_article)) in
-      sym (λ i. record { base = (row v a).base; kept = kept i; known = same_known a i })))
+      sym (λ i. record (row v a) { kept = kept i; known = same_known a i })))
 
   pub taken_again : taken kind v m ≡ v
-  taken_again = λ i. record {
-    setup = v.setup;
-    clock = same_clock i;
-    is_open = v.is_open;
-    pending = v.pending;
-    rows = same_rows i;
-    history = same_history i;
-    capacity = v.capacity;
-  }
+  taken_again = λ i. record v { clock = same_clock i; rows = same_rows i; history = same_history i }
 
 -- THE LAW
 

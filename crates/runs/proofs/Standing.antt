@@ -1,5 +1,5 @@
 -- What holds after every event of a run. Assumes nothing.
-use Rattle.std.proofs.Common.{◌≡◌, ℕ, ◌<◌, ◌≤◌, List, ◌++◌, Ok, Err}
+use Rattle.std.proofs.Common.{◌≡◌, ℕ, ◌<◌, ◌≤◌, List, ◌++◌, Ok}
 use Rattle.std.specs.List.{ContainsAt as Has, AllByRecursion}
 use Rattle.action.specs.declared.action.Action.{Action}
 use Rattle.action.specs.Order.{Ascending, Distinct}
@@ -10,7 +10,7 @@ use Rattle.table.specs.Sound.{Sound}
 use Rattle.table.specs.View.{View, entry, row}
 use Rattle.runs.specs.Books.{Book, book, greatest}
 use Rattle.runs.specs.Events.{Call, Event, wrote}
-use Rattle.runs.specs.Events.Call.{Opens, Writes, Commits, Abandons, Offers, Takes, Archives}
+use Rattle.runs.specs.Events.Call.{Takes}
 use Rattle.runs.specs.Laws.{Credits, IsMessageOf, TrueOrNothing}
 use Rattle.runs.specs.Runs.{Group}
 
@@ -63,14 +63,8 @@ pub record Site (kind : Meaning) (group : Group) (b : Book) (s : ℕ) (v : View)
 
 -- what a site has taken, it knows to be its own and the sender's
 abbrev pub Absorbed : Meaning → Group → ℕ → View → Call → Type 0
-Absorbed kind group s v (Opens r) = Unit {0}
-Absorbed kind group s v (Writes t article operation amount r) = Unit {0}
-Absorbed kind group s v (Commits t buffer r after) = Unit {0}
-Absorbed kind group s v (Abandons t r) = Unit {0}
-Absorbed kind group s v (Offers peer article buffer r after) = Unit {0}
 Absorbed kind group s v (Takes bytes (Ok n)) = (m : Message) × IsMessageOf kind group bytes m × Credits v s m × Credits v m.sender m
-Absorbed kind group s v (Takes bytes (Err e)) = Unit {0}
-Absorbed kind group s v (Archives article r) = Unit {0}
+Absorbed kind group s v _ = Unit {0}
 
 -- ALL SITES
 

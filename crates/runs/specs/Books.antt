@@ -1,6 +1,6 @@
 -- What a reader of the events writes down: the actions committed, and which of them each site has. It is
 -- computed from the events alone, by who called what and whether it was granted. Assumes nothing.
-use Rattle.std.specs.Prelude.{ℕ, ◌+◌, max, Bool, cond, ◌&&◌, List, [], ◌∷◌, ◌++◌, map, length, ℤ, Ok, Err, fold, filter, ◌==◌, nat_le}
+use Rattle.std.specs.Prelude.{ℕ, ◌+◌, max, Bool, cond, ◌&&◌, List, [], ◌∷◌, ◌++◌, map, length, ℤ, Ok, fold, filter, ◌==◌, nat_le}
 use Rattle.std.specs.List.{range_with_len}
 use Rattle.action.specs.declared.action.Action.{Action}
 use Rattle.action.specs.Order.{in_order}
@@ -10,7 +10,7 @@ use Rattle.message.specs.Walks.{intervals_of, records_in}
 use Rattle.table.specs.Taking.{highest}
 use Rattle.table.specs.Transactions.{latest}
 use Rattle.runs.specs.Events.{Call, Event}
-use Rattle.runs.specs.Events.Call.{Opens, Writes, Commits, Abandons, Offers, Takes, Archives}
+use Rattle.runs.specs.Events.Call.{Writes, Commits, Abandons, Takes}
 use Rattle.runs.specs.Runs.{Group}
 
 pub record Book : Type 0 where
@@ -46,20 +46,16 @@ next_action group b s article operation amount = record {
 
 -- the site's open transaction is now this
 abbrev pub with_pending : ℕ → List Action → Book → Book
-with_pending s xs b =
-    record { pending = λ z. cond (z == s) xs (b.pending z); reach = b.reach; committed = b.committed }
+with_pending s xs b = record b { pending = λ z. cond (z == s) xs (b.pending z) }
 
 -- the site has reached these times too, by article and coordinator
 abbrev pub reaching : ℕ → (ℕ → ℕ → ℕ) → Book → Book
-reaching s times b = record {
-  pending = b.pending;
-  reach = λ z a q. cond (z == s) (max (b.reach z a q) (times a q)) (b.reach z a q);
-  committed = b.committed;
-}
+reaching s times b =
+    record b { reach = λ z a q. cond (z == s) (max (b.reach z a q) (times a q)) (b.reach z a q) }
 
 -- these actions are committed too
 abbrev pub with_committed : List Action → Book → Book
-with_committed xs b = record { pending = b.pending; reach = b.reach; committed = b.committed ++ xs }
+with_committed xs b = record b { committed = b.committed ++ xs }
 
 -- a site reaches its own actions when it commits them
 abbrev pub own_times : ℕ → List Action → ℕ → ℕ → ℕ
@@ -70,19 +66,13 @@ abbrev pub taken_times : List ℕ → ℕ → ℕ → ℕ
 taken_times bytes a q = highest a q (intervals_of 0 (records_in bytes))
 
 abbrev pub entered_call : Group → Book → ℕ → Call → Book
-entered_call group b s (Opens r) = b
 entered_call group b s (Writes t article operation amount (Ok time)) =
     with_pending s (b.pending s ++ next_action group b s article operation amount ∷ []) b
-entered_call group b s (Writes t article operation amount (Err e)) = b
 entered_call group b s (Commits t buffer (Ok n) after) =
     with_pending s [] (reaching s (own_times s (b.pending s)) (with_committed (b.pending s) b))
-entered_call group b s (Commits t buffer (Err e) after) = b
 entered_call group b s (Abandons t (Ok _)) = with_pending s [] b
-entered_call group b s (Abandons t (Err e)) = b
-entered_call group b s (Offers peer article buffer r after) = b
 entered_call group b s (Takes bytes (Ok n)) = reaching s (taken_times bytes) b
-entered_call group b s (Takes bytes (Err e)) = b
-entered_call group b s (Archives article r) = b
+entered_call group b s _ = b
 
 -- the book after the events, the latest of which is first
 abbrev pub book : Group → List Event → Book

@@ -1,5 +1,5 @@
 -- One event of a run: a call at one site, what it answered and what it left. Assumes nothing.
-use Rattle.std.specs.Prelude.{◌≡◌, ℕ, ◌<◌, List, [], take, ℤ, Ok, Err, Result, FitsSigned}
+use Rattle.std.specs.Prelude.{◌≡◌, ℕ, ◌<◌, List, [], take, ℤ, Ok, Result, FitsSigned}
 use Rattle.std.specs.Int.{w32}
 use Rattle.kind.specs.Meaning.{Meaning}
 use Rattle.table.specs.declared.table_fault.TableFault.{TableFault}
@@ -43,12 +43,6 @@ Does kind v (Archives article r) w = Archived kind v article r w
 
 -- the message that the call wrote, or nothing
 abbrev pub wrote : Call → List ℕ
-wrote (Opens r) = []
-wrote (Writes t article operation amount r) = []
 wrote (Commits t buffer (Ok n) after) = take n.1 after
-wrote (Commits t buffer (Err e) after) = []
-wrote (Abandons t r) = []
 wrote (Offers peer article buffer (Ok n) after) = take n after
-wrote (Offers peer article buffer (Err e) after) = []
-wrote (Takes bytes r) = []
-wrote (Archives article r) = []
+wrote _ = []

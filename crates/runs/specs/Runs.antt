@@ -1,11 +1,11 @@
 -- Runs of one group's tables: any events in any order, each as its call's contract says. Assumes nothing.
-use Rattle.std.specs.Prelude.{◌≡◌, ℕ, ◌<◌, ◌≤◌, List, [], ◌∷◌, map, Ok, Err, ◌≢◌}
+use Rattle.std.specs.Prelude.{◌≡◌, ℕ, ◌<◌, ◌≤◌, List, [], ◌∷◌, map, Ok, ◌≢◌}
 use Rattle.std.specs.List.{ContainsAt as Has}
 use Rattle.action.specs.declared.setup.Setup.{Setup}
 use Rattle.kind.specs.Meaning.{Meaning}
 use Rattle.table.specs.View.{View, fresh}
 use Rattle.runs.specs.Events.{Call, Does, Event, wrote}
-use Rattle.runs.specs.Events.Call.{Opens, Writes, Commits, Abandons, Offers, Takes, Archives}
+use Rattle.runs.specs.Events.Call.{Takes}
 
 -- this set-up is that of site s of the group
 pub record OfGroup (number sites articles s : ℕ) (setup : Setup) : Type 0 where
@@ -27,14 +27,8 @@ pub record Group : Type 0 where
 -- what is taken was written in an earlier event, byte for byte; it may be taken late, often, anywhere or
 -- never
 abbrev pub Honest : List Event → Call → Type 0
-Honest before (Opens r) = Unit {0}
-Honest before (Writes t article operation amount r) = Unit {0}
-Honest before (Commits t buffer r after) = Unit {0}
-Honest before (Abandons t r) = Unit {0}
-Honest before (Offers peer article buffer r after) = Unit {0}
 Honest before (Takes bytes (Ok n)) = Has (map (λ event. wrote event.call) before) bytes
-Honest before (Takes bytes (Err e)) = Unit {0}
-Honest before (Archives article r) = Unit {0}
+Honest before _ = Unit {0}
 
 -- one event leads from these tables, by site, to those: the table of its site changes as its call says, and
 -- no other
