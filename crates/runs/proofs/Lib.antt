@@ -2,6 +2,7 @@ pub mod Archiving
 pub mod Beginning
 pub mod Commits
 pub mod Counting
+pub mod Going
 pub mod Greatest
 pub mod Growing
 pub mod Laws

@@ -1,5 +1,5 @@
 -- The laws of whole runs. Assumes nothing.
-use Rattle.std.specs.Prelude.{◌≡◌, ℕ, ◌<◌, ◌≤◌, true, false, ◌⊎◌, List, [], Ok, Result}
+use Rattle.std.specs.Prelude.{◌≡◌, ℕ, ◌<◌, ◌≤◌, true, false, ◌⊎◌, ◌↔◌, List, [], ◌++◌, Ok, Result}
 use Rattle.std.specs.List.{ContainsAt as Has, AllByRecursion}
 use Rattle.action.specs.declared.action.Action.{Action}
 use Rattle.action.specs.Order.{Distinct}
@@ -14,7 +14,7 @@ use Rattle.table.specs.View.{View, entry}
 use Rattle.runs.specs.Books.{Book, book, counted, counted_by_all, reaches, taken_times}
 use Rattle.runs.specs.Events.{Event, wrote}
 use Rattle.runs.specs.Events.Call.{Takes}
-use Rattle.runs.specs.Runs.{Group, Ran}
+use Rattle.runs.specs.Runs.{GoesOn, Group, Ran}
 
 -- the action is on an article of the group, and its coordinator is a site of the group, which has it
 pub record HadByItsCoordinator (group : Group) (b : Book) (x : Action) : Type 0 where
@@ -145,3 +145,13 @@ Learned kind = EveryRun kind (LearnsFromMessages kind)
 
 abbrev pub Entered : Meaning → Type 0
 Entered kind = EveryRun kind (λ group events views. EntersMessages kind group events)
+
+-- RUNS THAT GO ON
+
+-- a run that goes on is a run, so that every law holds at its end too; and a run goes on from each of its
+-- beginnings
+abbrev pub GoneOn : Meaning → Type 0
+GoneOn kind =
+    (group : Group) (before later : List Event) (views : ℕ → View) →
+    ((from : ℕ → View) × Ran kind group before from × GoesOn kind group before from later views)
+    ↔ Ran kind group (later ++ before) views

@@ -1,5 +1,5 @@
 -- Runs of one group's tables: any events in any order, each as its call's contract says. Assumes nothing.
-use Rattle.std.specs.Prelude.{◌≡◌, ℕ, ◌<◌, ◌≤◌, List, [], ◌∷◌, map, Ok, ◌≢◌}
+use Rattle.std.specs.Prelude.{◌≡◌, ℕ, ◌<◌, ◌≤◌, List, [], ◌∷◌, ◌++◌, map, Ok, ◌≢◌}
 use Rattle.std.specs.List.{ContainsAt as Has}
 use Rattle.action.specs.declared.setup.Setup.{Setup}
 use Rattle.kind.specs.Meaning.{Meaning}
@@ -43,3 +43,10 @@ abbrev pub Ran : Meaning → Group → List Event → (ℕ → View) → Type 0
 Ran kind group [] views = (s : ℕ) → s < group.sites → views s ≡ fresh kind (group.setup s) (group.capacity s)
 Ran kind group (event ∷ before) views =
     (old : ℕ → View) × Ran kind group before old × Turn kind group before event old views
+
+-- after earlier events, later ones, the latest first, lead from these tables to those; what they take may have
+-- been written by the earlier ones
+abbrev pub GoesOn : Meaning → Group → List Event → (ℕ → View) → List Event → (ℕ → View) → Type 0
+GoesOn kind group before from [] views = views ≡ from
+GoesOn kind group before from (event ∷ later) views =
+    (old : ℕ → View) × GoesOn kind group before from later old × Turn kind group (later ++ before) event old views

@@ -2,7 +2,7 @@
 //! sites, where messages are taken late, often, in any order or never.
 #![tactic(auto)]
 
-ghost use Rattle.runs.specs.Laws.{Believed, Counted, Entered, Learned, Level, NoneAhead, Repeated, Truthful};
+ghost use Rattle.runs.specs.Laws.{Believed, Counted, Entered, GoneOn, Learned, Level, NoneAhead, Repeated, Truthful};
 
 use kind::Kind;
 
@@ -36,4 +36,8 @@ pub fn each_movement_counted_once<K: Kind>()
     // The book of the run (docs/LAWS.md, section 3) enters of each message that a site took what its intervals
     // say.
     ensures entered { Entered K.means }
+
+    // A run that goes on is a run, so that all these laws hold at its end too; and a run goes on from each of its
+    // beginnings.
+    ensures gone_on { GoneOn K.means }
 {}

@@ -1,4 +1,5 @@
 use Rattle.runs.proofs.Counting.{counts_each_once, level}
+use Rattle.runs.proofs.Going.{gone_on}
 use Rattle.runs.proofs.Laws.{every_run, run_stands}
 use Rattle.runs.proofs.Repeating.{repeats}
 use Rattle.runs.proofs.Truth.{believes_no_more, enters_messages, learns_from_messages, no_site_ahead, tells_the_truth}
@@ -19,4 +20,5 @@ returns g c =
       truthful = every_run kind stands (tells_the_truth kind);
       learned = every_run kind stands (learns_from_messages kind);
       entered = every_run kind stands (λ group events views st. enters_messages kind group events views st small);
+      gone_on = gone_on kind;
     }
