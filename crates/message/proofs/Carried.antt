@@ -1,10 +1,12 @@
 -- What a message carries: its intervals and its actions, as its records have them. Assumes nothing.
-use Rattle.std.proofs.Common.{◌≡◌, ℕ, ◌+◌, ◌<◌, Bool, false, List, [], ◌∷◌, ◌++◌, map, length, Some, None, Option, sym, refl, ap, ◌∙◌, subst, ⊎_elim, arith}
+use Rattle.std.proofs.Common.{◌≡◌, ℕ, ◌+◌, ◌<◌, Bool, false, cond, List, [], ◌∷◌, ◌++◌, map, length, Some, None, Option, count_by, sym, refl, ap, ◌∙◌, subst, ⊎_elim, arith}
 use Rattle.std.specs.Option.{option_map}
 use Rattle.std.specs.List.{flat_map, ContainsAt as Has, AllByRecursion}
 use Rattle.std.proofs.ByRecursion.{All-append, all-has, all_has_itself, All-map, All-weaker, has_append_left, has_append_right}
 use Rattle.std.proofs.lemmas.Bool.{cases_Bool, cond-false, cond-true}
-use Rattle.action.specs.declared.action.Action.{Action}
+use Rattle.std.proofs.lemmas.List.{append_assoc, map-id}
+use Rattle.std.proofs.lemmas.List.Concat.{length-flat_map}
+use Rattle.std.proofs.lemmas.List.Sums.{sum_by-cons}
 use Rattle.action.specs.declared.setup.Setup.{Setup}
 use Rattle.action.proofs.Members.{has_cons_cases, has_first, has_later, has_none}
 use Rattle.action.proofs.Pairs.{pairwise_append}
@@ -16,9 +18,10 @@ use Rattle.message.specs.declared.record.Record.{Record}
 use Rattle.message.specs.declared.record.Record.TheVariants as RecordKinds
 use Rattle.message.specs.Format.{Message, Section, carried, record_bytes, records, section_records, told_intervals}
 use Rattle.message.specs.Found.{first_place}
-use Rattle.message.specs.Lawful.{Carries, LawfulAction, LawfulInterval, LawfulMessage, LawfulSection, Rising}
+use Rattle.message.specs.Lawful.{Carries, LawfulAction, LawfulInterval, LawfulMessage, LawfulSection, Rising, action_count}
+use Rattle.message.specs.Reading.{is_action}
 use Rattle.message.specs.Walks.{actions_of, article_after, intervals_of}
-use Rattle.message.proofs.SectionIntervals.{all_from_map}
+use Rattle.message.proofs.Parts.{all_from_map}
 
 -- LISTS IN A ROW
 
@@ -36,7 +39,7 @@ module _ {X Y : Type 0} (f : X → List Y) where
       (has_cons_cases z zs x h)
 
 pub has_map : {X Y : Type 0} (f : X → Y) (xs : List X) (x : X) → Has xs x → Has (map f xs) (f x)
-has_map f xs x h = all-has (λ y. Has (map f xs) (f y)) xs x (all_from_map (Has (map f xs)) f xs (all_has_itself (map f xs))) h
+has_map f xs x h = all-has (λ y. Has (map f xs) (f y)) xs x (all_from_map f (Has (map f xs)) xs (all_has_itself (map f xs))) h
 
 -- FINDING NONE
 
@@ -56,41 +59,46 @@ none_found test at a (RecordKinds.Interval i ∷ rs) h =
     place o = option_map (λ s. s.offset) o
 none_found test at a (r ∷ rs) h = none_found test (at + length (record_bytes r)) (article_after a r) rs h
 
--- RECORDS OF ONE KIND, AND THE REST
+-- A BLOCK OF RECORDS, AND THE REST
 
-intervals_on : (a : ℕ) (is : List Interval) (rs qs : List Record) → intervals_of a ((map RecordKinds.Interval is ++ rs) ++ qs) ≡ map (λ i. (a, i)) is ++ intervals_of a (rs ++ qs)
-intervals_on a [] rs qs = refl
-intervals_on a (i ∷ is) rs qs = ap (λ l. (a, i) ∷ l) (intervals_on a is rs qs)
+module _ {X Y : Type 0} (wrap : X → Record) (among : List Record → List Y) where
+  passed_over : ((x : X) (rs : List Record) → among (wrap x ∷ rs) ≡ among rs) → (xs : List X) (rs : List Record) → among (map wrap xs ++ rs) ≡ among rs
+  passed_over each [] rs = refl
+  passed_over each (x ∷ xs) rs = each x (map wrap xs ++ rs) ∙ passed_over each xs rs
 
-intervals_past : (a : ℕ) (xs : List Action) (rs : List Record) → intervals_of a (map RecordKinds.Action xs ++ rs) ≡ intervals_of a rs
-intervals_past a [] rs = refl
-intervals_past a (x ∷ xs) rs = intervals_past a xs rs
-
-actions_past : (is : List Interval) (rs qs : List Record) → actions_of ((map RecordKinds.Interval is ++ rs) ++ qs) ≡ actions_of (rs ++ qs)
-actions_past [] rs qs = refl
-actions_past (i ∷ is) rs qs = actions_past is rs qs
-
-actions_on : (xs : List Action) (rs : List Record) → actions_of (map RecordKinds.Action xs ++ rs) ≡ xs ++ actions_of rs
-actions_on [] rs = refl
-actions_on (x ∷ xs) rs = ap (λ l. x ∷ l) (actions_on xs rs)
+  taken_up : (f : X → Y) → ((x : X) (rs : List Record) → among (wrap x ∷ rs) ≡ f x ∷ among rs) → (xs : List X) (rs : List Record) → among (map wrap xs ++ rs) ≡ map f xs ++ among rs
+  taken_up f each [] rs = refl
+  taken_up f each (x ∷ xs) rs = each x (map wrap xs ++ rs) ∙ ap (λ l. f x ∷ l) (taken_up f each xs rs)
 
 -- OF A WHOLE MESSAGE
 
 sections_told : (a : ℕ) (ss : List Section) → intervals_of a (flat_map section_records ss) ≡ flat_map (λ s. map (λ i. (s.article, i)) s.intervals) ss
 sections_told a [] = refl
 sections_told a (s ∷ ss) =
-    intervals_on s.article s.intervals (map RecordKinds.Action s.actions) (flat_map section_records ss) ∙ ap (λ l. map (λ i. (s.article, i)) s.intervals ++ l) (intervals_past s.article s.actions (flat_map section_records ss) ∙ sections_told s.article ss)
+    let rest = flat_map section_records ss in
+    let actions = map RecordKinds.Action s.actions in
+    ap (intervals_of s.article) (append_assoc (map RecordKinds.Interval s.intervals) actions rest) ∙ taken_up RecordKinds.Interval (intervals_of s.article) (λ i. (s.article, i)) (λ i rs. refl) s.intervals (actions ++ rest) ∙ ap (λ l. map (λ i. (s.article, i)) s.intervals ++ l) (passed_over RecordKinds.Action (intervals_of s.article) (λ x rs. refl) s.actions rest ∙ sections_told s.article ss)
 
 sections_carried : (ss : List Section) → actions_of (flat_map section_records ss) ≡ flat_map (λ s. s.actions) ss
 sections_carried [] = refl
 sections_carried (s ∷ ss) =
-    actions_past s.intervals (map RecordKinds.Action s.actions) (flat_map section_records ss) ∙ actions_on s.actions (flat_map section_records ss) ∙ ap (λ l. s.actions ++ l) (sections_carried ss)
+    let rest = flat_map section_records ss in
+    let actions = map RecordKinds.Action s.actions in
+    ap actions_of (append_assoc (map RecordKinds.Interval s.intervals) actions rest) ∙ passed_over RecordKinds.Interval actions_of (λ i rs. refl) s.intervals (actions ++ rest) ∙ taken_up RecordKinds.Action actions_of (λ x. x) (λ x rs. refl) s.actions rest ∙ (λ k. map-id s.actions k ++ sections_carried ss k)
 
 pub told_intervals_of : (a : ℕ) (m : Message) → intervals_of a (records m) ≡ told_intervals m
 told_intervals_of a m = sections_told a m.sections
 
 pub carried_of : (m : Message) → actions_of (records m) ≡ carried m
 carried_of m = sections_carried m.sections
+
+count_of : (rs : List Record) → count_by is_action rs ≡ length (actions_of rs)
+count_of [] = refl
+count_of (RecordKinds.Action x ∷ rs) = sum_by-cons (λ r. cond (is_action r) 1 0) (RecordKinds.Action x) rs ∙ omega (arith, count_of rs)
+count_of (_ ∷ rs) = count_of rs
+
+pub counted : (m : Message) → count_by is_action (records m) ≡ action_count m
+counted m = count_of (records m) ∙ ap length (carried_of m) ∙ length-flat_map (λ s. s.actions) m.sections
 
 -- OF A LAWFUL MESSAGE
 
@@ -129,7 +137,7 @@ sections_ranked kind setup (s ∷ ss) lawful rising =
     later : AllByRecursion (λ y. s.article < y.article) (flat_map (λ s. s.actions) ss)
     later =
         all_joined (λ s. s.actions) (λ y. s.article < y.article) ss (λ r h.
-        let after : s.article < r.article = all-has (λ r. s.article < r.article) ss r (all_from_map (λ a. s.article < a) (λ r. r.article) ss rising.0) h in
+        let after : s.article < r.article = all-has (λ r. s.article < r.article) ss r (all_from_map (λ r. r.article) (λ a. s.article < a) ss rising.0) h in
         All-weaker (LawfulAction kind r) (λ y. s.article < y.article) (λ y k. omega (arith, k.on_article)) r.actions (all-has (LawfulSection kind setup) ss r lawful.1 h).actions)
 
 -- no action is carried twice

@@ -2,7 +2,7 @@
 use Rattle.std.proofs.Common.{◌≡◌, ◌≤◌, List, [], ◌∷◌, ◌++◌, map, length, sym, refl, ap, ◌∙◌, arith}
 use Rattle.std.specs.List.{flat_map, AllByRecursion}
 use Rattle.std.proofs.ByRecursion.{All-append, all-has, All-map, All-weaker}
-use Rattle.std.proofs.lemmas.List.{append_assoc, length-map}
+use Rattle.std.proofs.lemmas.List.{append_assoc}
 use Rattle.action.specs.declared.action.Action.{Action}
 use Rattle.action.specs.declared.setup.Setup.{Setup}
 use Rattle.kind.specs.Meaning.{Meaning}
@@ -13,26 +13,16 @@ use Rattle.message.specs.Fields.{ActionFits, Fitting, HeaderFits, IntervalFits, 
 use Rattle.message.specs.Format.{Message, Section, head_of, header_of, records, section_records}
 use Rattle.message.specs.Lawful.{LawfulAction, LawfulInterval, LawfulMessage, LawfulSection}
 
--- LISTS
-
-pub append_same : {X : Type 0} (xs ys us vs : List X) → length xs ≡ length ys → xs ++ us ≡ ys ++ vs → (xs ≡ ys) × (us ≡ vs)
-append_same [] [] us vs long same = (refl, same)
-append_same [] (y ∷ ys) us vs long same = absurd (omega arith)
-append_same (x ∷ xs) [] us vs long same = absurd (omega arith)
-append_same (x ∷ xs) (y ∷ ys) us vs long same =
-    let head : x ≡ y = cc in
-    let tail : xs ++ us ≡ ys ++ vs = cc in
-    let more = append_same xs ys us vs (omega arith) tail in
-    (λ i. head i ∷ more.0 i, more.1)
-
-pub map_same : {X Y : Type 0} (f : X → Y) → ((x y : X) → f x ≡ f y → x ≡ y) → (xs ys : List X) → map f xs ≡ map f ys → xs ≡ ys
-map_same f one [] [] same = refl
-map_same f one [] (y ∷ ys) same = cc
-map_same f one (x ∷ xs) [] same = cc
-map_same f one (x ∷ xs) (y ∷ ys) same =
-    let head : f x ≡ f y = cc in
-    let tail : map f xs ≡ map f ys = cc in
-    λ i. one x y head i ∷ map_same f one xs ys tail i
+-- a block of records, and what follows it
+block_same : {X : Type 0} (wrap : X → Record) → ((x y : X) → wrap x ≡ wrap y → x ≡ y) → (xs ys : List X) (rs qs : List Record) → length xs ≡ length ys → map wrap xs ++ rs ≡ map wrap ys ++ qs → (xs ≡ ys) × (rs ≡ qs)
+block_same wrap one [] [] rs qs many same = (refl, same)
+block_same wrap one [] (y ∷ ys) rs qs many same = absurd (omega arith)
+block_same wrap one (x ∷ xs) [] rs qs many same = absurd (omega arith)
+block_same wrap one (x ∷ xs) (y ∷ ys) rs qs many same =
+    let head : wrap x ≡ wrap y = cc in
+    let tail : map wrap xs ++ rs ≡ map wrap ys ++ qs = cc in
+    let more = block_same wrap one xs ys rs qs (omega arith) tail in
+    (λ i. one x y head i ∷ more.0 i, more.1)
 
 -- MESSAGES BY THEIR RECORDS
 
@@ -46,13 +36,10 @@ section_same : (s t : Section) (rs qs : List Record) → section_records s ++ rs
 section_same s t rs qs same =
     let head : head_of s ≡ head_of t = cc in
     let body : (map RecordKinds.Interval s.intervals ++ map RecordKinds.Action s.actions) ++ rs ≡ (map RecordKinds.Interval t.intervals ++ map RecordKinds.Action t.actions) ++ qs = cc in
-    let long : length (map RecordKinds.Interval s.intervals) ≡ length (map RecordKinds.Interval t.intervals) = length-map s.intervals RecordKinds.Interval ∙ ap (λ h. h.intervals) head ∙ sym (length-map t.intervals RecordKinds.Interval) in
-    let many : length (map RecordKinds.Action s.actions) ≡ length (map RecordKinds.Action t.actions) = length-map s.actions RecordKinds.Action ∙ ap (λ h. h.actions) head ∙ sym (length-map t.actions RecordKinds.Action) in
-    let parts = append_same (map RecordKinds.Interval s.intervals) (map RecordKinds.Interval t.intervals) (map RecordKinds.Action s.actions ++ rs) (map RecordKinds.Action t.actions ++ qs) long (sym (append_assoc (map RecordKinds.Interval s.intervals) (map RecordKinds.Action s.actions) rs) ∙ body ∙ append_assoc (map RecordKinds.Interval t.intervals) (map RecordKinds.Action t.actions) qs) in
-    let rest = append_same (map RecordKinds.Action s.actions) (map RecordKinds.Action t.actions) rs qs many parts.1 in
-    let is = map_same RecordKinds.Interval interval_same s.intervals t.intervals parts.0 in
-    let xs = map_same RecordKinds.Action action_same s.actions t.actions rest.0 in
-    (λ i. record { article = (head i).article; intervals = is i; actions = xs i }, rest.1)
+    let blocks = sym (append_assoc (map RecordKinds.Interval s.intervals) (map RecordKinds.Action s.actions) rs) ∙ body ∙ append_assoc (map RecordKinds.Interval t.intervals) (map RecordKinds.Action t.actions) qs in
+    let is = block_same RecordKinds.Interval interval_same s.intervals t.intervals (map RecordKinds.Action s.actions ++ rs) (map RecordKinds.Action t.actions ++ qs) (ap (λ h. h.intervals) head) blocks in
+    let xs = block_same RecordKinds.Action action_same s.actions t.actions rs qs (ap (λ h. h.actions) head) is.1 in
+    (λ i. record { article = (head i).article; intervals = is.0 i; actions = xs.0 i }, xs.1)
 
 sections_same : (ss ts : List Section) → flat_map section_records ss ≡ flat_map section_records ts → ss ≡ ts
 sections_same [] [] same = refl

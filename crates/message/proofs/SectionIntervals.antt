@@ -1,7 +1,6 @@
 -- A section's intervals: the test of each after those before it, and what all of them keep. Assumes nothing.
-use Rattle.std.proofs.Common.{◌≡◌, Ok, Err, ℕ, zero, suc, ◌+◌, ◌<◌, ◌≤◌, true, cond, ◌&&◌, ltb, leb, ◌⊎◌, List, [], ◌∷◌, map, length, get_or, set, fold, sym, refl, ap, ◌∙◌, subst, inl, inr, arith}
-use Rattle.std.specs.List.{ContainsAt as Has, AllByRecursion}
-use Rattle.std.proofs.ByRecursion.{All-map, All-weaker}
+use Rattle.std.proofs.Common.{◌≡◌, Ok, Err, ℕ, zero, suc, ◌<◌, ◌≤◌, true, ◌&&◌, ltb, leb, ◌⊎◌, List, [], ◌∷◌, map, length, get_or, set, fold, sym, refl, ap, ◌∙◌, subst, inl, inr, arith}
+use Rattle.std.specs.List.{flat_map, ContainsAt as Has, AllByRecursion}
 use Rattle.std.proofs.lemmas.List.{get_or-set_other, get_or-set_same, length-set, set_past}
 use Rattle.std.proofs.lemmas.Bool.{and_from, and_parts, cases_eq, cases_lt, cond-true, le-leb, leb-true, lt-ltb, ltb-true}
 use Rattle.action.specs.declared.setup.Setup.{Setup}
@@ -14,66 +13,44 @@ use Rattle.message.specs.declared.reader_fault.UnplacedFault.TheVariants.{Broken
 use Rattle.message.specs.declared.record.Interval.{Interval}
 use Rattle.message.specs.declared.record.Record.TheVariants as RecordKinds
 use Rattle.message.specs.Lawful.{LawfulInterval, Rising}
-use Rattle.message.specs.Progress.{after_interval, carries, due_after, lawful_interval, no_span}
-use Rattle.message.specs.Rules.{is_due}
+use Rattle.message.specs.Progress.{after_interval, carries, lawful_interval, no_span}
 use Rattle.message.proofs.Onward.{interval_on}
-use Rattle.message.proofs.Steps.{onward_passes}
-use Rattle.message.proofs.Blocks.{Block, Run}
+use Rattle.message.proofs.Parts.{Part, Run, RunOf, actions_due, all_from_map, intervals_due, many, one, run_passes, run_told}
 
--- THE BLOCK
+-- THE PART
 
-abbrev pub IntervalsReady : Progress → Type 0
-IntervalsReady p = p.due ≡ due_after p.intervals p.actions p.sections
-
-pub due_interval : (p : Progress) → IntervalsReady p → 1 ≤ p.intervals → p.due ≡ Due.Interval
-due_interval p so some =
-    so ∙ cond-true (ltb 0 p.intervals) Due.Interval (cond (ltb 0 p.actions) Due.Action (cond (ltb 0 p.sections) Due.Section Due.End)) (lt-ltb 0 p.intervals some)
+abbrev pub IntervalPasses : Setup → Progress → Interval → Type 0
+IntervalPasses setup p i = lawful_interval setup p i ≡ true
 
 module _ (kind : Meaning) (setup : Setup) where
-  pub intervals_block : Block kind setup RecordKinds.Interval (lawful_interval setup) after_interval (λ p. p.intervals) IntervalsReady
-  intervals_block = record {
-    takes = λ p q r so some is passes. interval_on kind setup p q r (ap (λ d. is_due d r) (sym (due_interval p so some)) ∙ is) passes;
-    leads = λ p i so some test. onward_passes kind setup p (after_interval p i) (RecordKinds.Interval i) (ap (λ d. is_due d (RecordKinds.Interval i)) (due_interval p so some)) (cond-true (lawful_interval setup p i) (Ok (after_interval p i)) (Err Broken) test);
-    goes_on = λ p so some end. let z : Due.Interval ≡ Due.End = sym (due_interval p so some) ∙ end in cc;
-    fewer = λ p i. refl;
-    ready = λ p i so. refl;
-  }
+  interval_part : Part kind setup (λ i. RecordKinds.Interval i ∷ []) (IntervalPasses setup) after_interval (λ _. Due.Interval) intervals_due
+  interval_part =
+      one kind setup RecordKinds.Interval (IntervalPasses setup) after_interval Due.Interval intervals_due (λ end. cc) (λ i. refl) (interval_on kind setup) (λ p i test. cond-true (lawful_interval setup p i) (Ok (after_interval p i)) (Err Broken) test) (λ p i test. refl)
 
--- THE TESTS
+  pub intervals_part : Part kind setup (flat_map (λ i. RecordKinds.Interval i ∷ [])) (RunOf (IntervalPasses setup) after_interval (λ p. p.intervals)) (fold after_interval) intervals_due actions_due
+  intervals_part = many kind setup (λ p. p.intervals) Due.Interval actions_due interval_part (λ p i. refl)
 
-pub all_from_map : {X Y : Type 0} (P : X → Type 0) (f : Y → X) (ys : List Y) → AllByRecursion P (map f ys) → AllByRecursion (λ y. P (f y)) ys
-all_from_map P f [] h = tt
-all_from_map P f (y ∷ ys) h = (h.0, all_from_map P f ys h.1)
+-- THE TEST
 
 module _ (setup : Setup) where
-  module _ (p : Progress) (i : Interval) where
-    pub interval_told : lawful_interval setup p i ≡ true → LawfulInterval setup i × (p.next_site ≤ i.site)
-    interval_told h =
-        let a = and_parts (leb p.next_site i.site && ltb i.site setup.sites) _ h in
-        let b = and_parts (leb p.next_site i.site) _ a.0 in
-        let c = and_parts (leb i.from i.to) _ a.1 in
-        (record { of_group = ltb-true _ _ b.1; forward = leb-true _ _ c.0; in_time = leb-true _ _ c.1 }, leb-true _ _ b.0)
+  pub interval_told : (p : Progress) (i : Interval) → IntervalPasses setup p i → LawfulInterval setup i × (p.next_site ≤ i.site)
+  interval_told p i h =
+      let a = and_parts (leb p.next_site i.site && ltb i.site setup.sites) _ h in
+      let b = and_parts (leb p.next_site i.site) _ a.0 in
+      let c = and_parts (leb i.from i.to) _ a.1 in
+      (record { of_group = ltb-true _ _ b.1; forward = leb-true _ _ c.0; in_time = leb-true _ _ c.1 }, leb-true _ _ b.0)
 
-    pub interval_passes : LawfulInterval setup i → p.next_site ≤ i.site → lawful_interval setup p i ≡ true
-    interval_passes l h = and_from _ _ (and_from _ _ (le-leb _ _ h) (lt-ltb _ _ l.of_group)) (and_from _ _ (le-leb _ _ l.forward) (le-leb _ _ l.in_time))
+  pub interval_passes : (p : Progress) (i : Interval) → LawfulInterval setup i → p.next_site ≤ i.site → IntervalPasses setup p i
+  interval_passes p i l h = and_from _ _ (and_from _ _ (le-leb _ _ h) (lt-ltb _ _ l.of_group)) (and_from _ _ (le-leb _ _ l.forward) (le-leb _ _ l.in_time))
 
   -- the tests along the way say that all are lawful, their sites rising and none below the least
-  pub intervals_told : (p : Progress) (is : List Interval) → Run (lawful_interval setup) after_interval p is → AllByRecursion (LawfulInterval setup) is × AllByRecursion (λ i. p.next_site ≤ i.site) is × Rising (map (λ i. i.site) is)
-  intervals_told p [] run = (tt, tt, tt)
-  intervals_told p (i ∷ is) run =
-      let here = interval_told p i run.0 in
-      let more = intervals_told (after_interval p i) is run.1 in
-      let above = All-weaker (λ j. i.site + 1 ≤ j.site) (λ j. i.site < j.site) (λ j h. omega arith) is more.1 in (
-        (here.0, more.0),
-        (here.1, All-weaker (λ j. i.site < j.site) (λ j. p.next_site ≤ j.site) (λ j h. omega (arith, here.1)) is above),
-        (All-map (λ y. i.site < y) (λ j. j.site) is above, more.2),
-      )
+  pub intervals_told : (p : Progress) (is : List Interval) → Run (IntervalPasses setup) after_interval p is → AllByRecursion (LawfulInterval setup) is × AllByRecursion (λ i. p.next_site ≤ i.site) is × Rising (map (λ i. i.site) is)
+  intervals_told =
+      run_told (IntervalPasses setup) after_interval (λ i. i.site) (λ b c. b < c) (λ _. LawfulInterval setup) (λ p c. p.next_site ≤ c) interval_told (λ _ _ _ l. l) (λ p i j h. omega arith) (λ p i j h k. omega arith)
 
-  pub intervals_pass : (p : Progress) (is : List Interval) → AllByRecursion (LawfulInterval setup) is → AllByRecursion (λ i. p.next_site ≤ i.site) is → Rising (map (λ i. i.site) is) → Run (lawful_interval setup) after_interval p is
-  intervals_pass p [] lawful least up = tt
-  intervals_pass p (i ∷ is) lawful least up =
-      let above = all_from_map (λ y. i.site < y) (λ j. j.site) is up.0 in
-      (interval_passes p i lawful.0 least.0, intervals_pass (after_interval p i) is lawful.1 (All-weaker (λ j. i.site < j.site) (λ j. i.site + 1 ≤ j.site) (λ j h. omega arith) is above) up.1)
+  pub intervals_pass : (p : Progress) (is : List Interval) → AllByRecursion (LawfulInterval setup) is → AllByRecursion (λ i. p.next_site ≤ i.site) is → Rising (map (λ i. i.site) is) → Run (IntervalPasses setup) after_interval p is
+  intervals_pass =
+      run_passes (IntervalPasses setup) after_interval (λ i. i.site) (λ b c. b < c) (λ _. LawfulInterval setup) (λ p c. p.next_site ≤ c) interval_passes (λ _ _ _ l. l) (λ p i j h. omega arith)
 
 -- SPANS
 
@@ -111,6 +88,6 @@ span_kept p (i ∷ is) c h = span_kept (after_interval p i) is c h.1 ∙ get_or-
 pub span_set : (p : Progress) (is : List Interval) (i : Interval) (k : ℕ) → k < length is → get_or is k i ≡ i → Rising (map (λ i. i.site) is) → AllByRecursion (λ i. i.site < length p.spans) is → get_or (fold after_interval p is).spans i.site no_span ≡ span_of i
 span_set p [] i k in' at up few = absurd (omega arith)
 span_set p (j ∷ is) i zero in' at up few =
-    subst (λ x. get_or (fold after_interval (after_interval p j) is).spans x.site no_span ≡ span_of x) at (span_kept (after_interval p j) is j.site (all_from_map (λ y. j.site < y) (λ x. x.site) is up.0) ∙ get_or-set_same p.spans j.site _ no_span few.0)
+    subst (λ x. get_or (fold after_interval (after_interval p j) is).spans x.site no_span ≡ span_of x) at (span_kept (after_interval p j) is j.site (all_from_map (λ x. x.site) (λ y. j.site < y) is up.0) ∙ get_or-set_same p.spans j.site _ no_span few.0)
 span_set p (j ∷ is) i (suc k) in' at up few =
     span_set (after_interval p j) is i k (omega arith) at up.1 (subst (λ n. AllByRecursion (λ x. x.site < n) is) (sym (length-set p.spans j.site _)) few.1)

@@ -73,29 +73,22 @@ module _ (before : List Record) where
         actions = fold_push with_action [] before r k;
       }
 
-  pub interval_more : (i : Interval) → so_far (before ++ (RecordKinds.Interval i ∷ [])) ≡ and_interval (so_far before) i
-  interval_more i =
-      let r = RecordKinds.Interval i in
-      let begun = heads_kept before r refl in
+  same_head : (r : Record) → announced (r ∷ []) ≡ 0 → heads (r ∷ []) ≡ [] → so_far (before ++ (r ∷ [])) ≡ record { sections = announced before; begun = heads before; head = present_head before; intervals = with_interval (intervals_so_far before) r; actions = with_action (actions_so_far before) r }
+  same_head r none no_more =
+      let begun = heads_kept before r no_more in
       λ k. record {
-        sections = announced_kept before r refl k;
+        sections = announced_kept before r none k;
         begun = begun k;
         head = fold (λ _ t. t) no_head (begun k);
         intervals = fold_push with_interval [] before r k;
         actions = fold_push with_action [] before r k;
       }
 
+  pub interval_more : (i : Interval) → so_far (before ++ (RecordKinds.Interval i ∷ [])) ≡ and_interval (so_far before) i
+  interval_more i = same_head (RecordKinds.Interval i) refl refl
+
   pub action_more : (x : Action) → so_far (before ++ (RecordKinds.Action x ∷ [])) ≡ and_action (so_far before) x
-  action_more x =
-      let r = RecordKinds.Action x in
-      let begun = heads_kept before r refl in
-      λ k. record {
-        sections = announced_kept before r refl k;
-        begun = begun k;
-        head = fold (λ _ t. t) no_head (begun k);
-        intervals = fold_push with_interval [] before r k;
-        actions = fold_push with_action [] before r k;
-      }
+  action_more x = same_head (RecordKinds.Action x) refl refl
 
 -- WHAT IS TOLD
 
@@ -125,17 +118,7 @@ told_none = record {
 
 module _ (p : Progress) where
   pub header_tells : (h : Header) → Told p (so_far []) → Told (after_header p h) (so_far (RecordKinds.Header h ∷ []))
-  header_tells h t = record {
-    sections = omega arith;
-    intervals = t.intervals;
-    actions = t.actions;
-    article = t.article;
-    articles = t.articles;
-    sites = t.sites;
-    eight = t.eight;
-    spans = t.spans;
-    last = t.last;
-  }
+  header_tells h t = let sections : h.sections ≡ h.sections - 0 = omega arith in assumption sections
 
   module _ (w : SoFar) (t : Told p w) where
     pub section_tells : (s : SectionHead) → p.next_article ≤ s.article → Told (after_section p s) (with_head w s)
@@ -194,20 +177,13 @@ module _ (p : Progress) where
             (has_push_cases w.intervals i j has)
 
     pub action_tells : (x : Action) → 1 ≤ x.time → precedes p.last x ≡ true → Told (after_action p x) (and_action w x)
-    action_tells x some after = record {
-      sections = t.sections;
-      intervals = t.intervals;
-      actions = omega (arith, t.actions, length-append w.actions (x ∷ []));
-      article = t.article;
-      articles = t.articles;
-      sites = t.sites;
-      eight = t.eight;
-      spans = t.spans;
-      last = λ z late. (
-        λ h. All-push (λ y. precedes y z ≡ true) w.actions x (All-weaker (λ y. precedes y x ≡ true) (λ y. precedes y z ≡ true) (λ y k. precedes_trans y x z k h) w.actions ((t.last x some).0 after)) h,
-        λ h. (all_append_parts (λ y. precedes y z ≡ true) w.actions (x ∷ []) h).1.0,
-      );
-    }
+    action_tells x some after =
+        let actions : p.actions - 1 ≡ w.head.actions - length (w.actions ++ (x ∷ [])) = omega (arith, t.actions, length-append w.actions (x ∷ [])) in
+        let last : (z : Action) → 1 ≤ z.time → (precedes x z ≡ true) ↔ AllByRecursion (λ y. precedes y z ≡ true) (w.actions ++ (x ∷ [])) = λ z late. (
+          λ h. All-push (λ y. precedes y z ≡ true) w.actions x (All-weaker (λ y. precedes y x ≡ true) (λ y. precedes y z ≡ true) (λ y k. precedes_trans y x z k h) w.actions ((t.last x some).0 after)) h,
+          λ h. (all_append_parts (λ y. precedes y z ≡ true) w.actions (x ∷ []) h).1.0,
+        ) in
+        assumption (actions, last)
 
 -- WHAT IS DUE
 

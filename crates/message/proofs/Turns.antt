@@ -25,7 +25,7 @@ use Rattle.message.proofs.Onward.{first_on, not_none, passed, passed_twice, some
 use Rattle.message.proofs.Reasons.{ReasonAt, StopsAt, broken_at, cut_at, foreign_at, trailing_at}
 use Rattle.message.proofs.SectionActions.{Fair, action_passes, action_told}
 use Rattle.message.proofs.SectionIntervals.{interval_passes, interval_told}
-use Rattle.message.proofs.Sections.{head_passes, head_told, intervals_ready}
+use Rattle.message.proofs.Sections.{head_passes, head_told}
 use Rattle.message.proofs.Steps.{onward_passes}
 use Rattle.message.proofs.Telling.{Tells, action_more, action_tells, head_more, header_first, header_tells, interval_more, interval_tells, intervals_there, section_tells, so_far, tells_more, told_none}
 
@@ -66,7 +66,7 @@ module _ (kind : Meaning) (setup : Setup) where
             ours = tt;
             keeps = record { listed = told.listed; rising = (t.told.articles s.article).0 told.least; some = told.some; few = told.few };
           },
-          subst (λ n. Tells n (before ++ (RecordKinds.Section s ∷ []))) k.1 (tells_more (after_section p s) before (RecordKinds.Section s) _ (head_more before s) (section_tells p (so_far before) t.told s told.least) (intervals_ready kind setup p s told.some)),
+          subst (λ n. Tells n (before ++ (RecordKinds.Section s ∷ []))) k.1 (tells_more (after_section p s) before (RecordKinds.Section s) _ (head_more before s) (section_tells p (so_far before) t.told s told.least) refl),
         )
     admitted_follows before (RecordKinds.Interval i) t is so =
         let k = passed (lawful_interval setup p i) (after_interval p i) q so in
@@ -112,13 +112,7 @@ module _ (kind : Meaning) (setup : Setup) where
       (after_interval p i, cond-true (lawful_interval setup p i) (Ok (after_interval p i)) (Err BrokenFault) passes)
   follows_admitted p before (RecordKinds.Action x) t ours keeps =
       let some : 1 ≤ x.time = omega (arith, keeps.begun, keeps.in_turn) in
-      let fair : Fair kind p.article p.spans x = record {
-        on_article = keeps.on_article ∙ sym t.told.article;
-        in_span = (t.told.spans x.coordinator x.time).1 keeps.carried;
-        begun = keeps.begun;
-        in_turn = keeps.in_turn;
-        known = keeps.known;
-      } in
+      let fair : Fair kind p.article p.spans x = assumption (keeps.on_article ∙ sym t.told.article, (t.told.spans x.coordinator x.time).1 keeps.carried) in
       let passes = action_passes kind p x fair ((t.told.last x some).1 keeps.ordered) in
       (after_action p x, cond-true (lawful_action kind p x) (Ok (after_action p x)) (Err BrokenFault) passes)
 

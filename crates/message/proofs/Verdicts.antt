@@ -18,7 +18,8 @@ use Rattle.message.specs.Reading.{is_action, reading}
 use Rattle.message.specs.Rules.{is_due}
 use Rattle.message.specs.Scanning.{ReadSoFar, Scanned}
 use Rattle.message.proofs.Beginnings.{Begins, after_beginning, at_the_end, beginnings, begins_same, longest}
-use Rattle.message.proofs.Messages.{counted, lawful_reads, reads_lawful}
+use Rattle.message.proofs.Carried.{counted}
+use Rattle.message.proofs.Messages.{lawful_reads, reads_lawful}
 use Rattle.message.proofs.Onward.{some_same}
 use Rattle.message.proofs.Reasons.{ReasonAt, StopsAt, broken_at, cut_at, foreign_at, trailing_at}
 use Rattle.message.proofs.Refusing.{ended_told, reason}

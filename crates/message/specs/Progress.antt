@@ -63,7 +63,7 @@ lawful_section setup p s =
 
 abbrev pub after_section : Progress → SectionHead → Progress
 after_section p s = record {
-  due = Due.Interval;
+  due = due_after s.intervals s.actions (p.sections - 1);
   sections = p.sections - 1;
   intervals = s.intervals;
   actions = s.actions;

@@ -112,9 +112,10 @@ impl Progress {
         if !self.is_lawful_section(setup, head) {
             return Err(UnplacedFault::Broken);
         }
+        let sections = self.sections.saturating_sub(1);
         *self = Progress {
-            due: Due::Interval,
-            sections: self.sections.saturating_sub(1),
+            due: due_after(head.intervals, head.actions, sections),
+            sections,
             intervals: head.intervals,
             actions: head.actions,
             article: head.article,
