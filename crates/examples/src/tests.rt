@@ -90,7 +90,7 @@ fn histories_are_made(rt: HostRuntime) -> Result<(), Fail> {
 
 #[test]
 fn desk_is_made(rt: HostRuntime) -> Result<(), Fail> {
-    let mut desk = Desk::new(rt.alloc())?;
+    let mut desk = Desk::<OnHand>::new(rt.alloc())?;
     let (_, sheet) = desk.run(0, b"F00");
     assert_eq!(rt; sheet.as_slice(), b"F 0\n".as_slice());
     Ok(())

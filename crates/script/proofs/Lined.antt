@@ -2,6 +2,7 @@
 use Rattle.std.proofs.Common.{◌≡◌, ℕ, zero, suc, ◌+◌, ◌<◌, ◌≤◌, min, eqb, List, [], ◌∷◌, ◌++◌, length, get_or, take, drop, sym, refl, ap, ◌∙◌, subst, ⊎_elim, arith}
 use Rattle.std.proofs.lemmas.List.{append_assoc, append-nil, take_all}
 use Rattle.std.proofs.lemmas.Bool.{cases_lt, cond-false, cond-true, cond_both, eq-eqb, ne_eqb}
+use Rattle.kind.specs.Meaning.{Meaning}
 use Rattle.script.specs.Desk.{DeskView, Performs}
 use Rattle.script.specs.Scripts.{PerformsAll, before, lines}
 use Rattle.script.specs.Sheets.{Printed}
@@ -46,12 +47,9 @@ cut input n e =
     (λ h. ap (λ k. take k input) {x = 32768} {y = n} (omega arith))
     (cases_lt (length input) 32768)
 
--- one line more
-pub runs_more : (d between after : DeskView) (index : ℕ) (done : List (List ℕ)) (line bytes sheet : List ℕ) → PerformsAll d index done between bytes → Printed line sheet (λ a. Performs between (index + length done) line a after) → PerformsAll d index (done ++ (line ∷ [])) after (bytes ++ sheet)
-runs_more d between after index [] line bytes sheet all (a, one, printed) =
-    let same : index + 0 ≡ index = omega arith in
-    (after, sheet, [], (a, subst (λ b. Performs b index line a after) all.0 (subst (λ n. Performs between n line a after) same one), printed), (refl, refl), ap (λ bs. bs ++ sheet) all.1 ∙ sym (append-nil sheet))
-runs_more d between after index (l ∷ ls) line bytes sheet all (a, one, printed) =
-    let rest = all.2 in
-    let same : index + length (l ∷ ls) ≡ index + 1 + length ls = omega arith in
-    (all.0, all.1, rest ++ sheet, all.3, runs_more all.0 between after (index + 1) ls line rest sheet all.4 (a, subst (λ n. Performs between n line a after) same one, printed), ap (λ bs. bs ++ sheet) all.5 ∙ append_assoc all.1 rest sheet)
+-- one line more, of number n
+pub runs_more : (kind : Meaning) (d between after : DeskView) (index n : ℕ) (done : List (List ℕ)) (line bytes sheet : List ℕ) → n ≡ index + length done → PerformsAll kind d index done between bytes → Printed line sheet (λ a. Performs kind between n line a after) → PerformsAll kind d index (done ++ (line ∷ [])) after (bytes ++ sheet)
+runs_more kind d between after index n [] line bytes sheet numbered all (a, one, printed) =
+    (after, sheet, [], (a, subst (λ b. Performs kind b index line a after) all.0 (subst (λ k. Performs kind between k line a after) (omega arith) one), printed), (refl, refl), ap (λ bs. bs ++ sheet) all.1 ∙ sym (append-nil sheet))
+runs_more kind d between after index n (l ∷ ls) line bytes sheet numbered (next, first, rest, ran, others, is) one =
+    (next, first, rest ++ sheet, ran, runs_more kind next between after (index + 1) n ls line rest sheet (omega arith) others one, ap (λ bs. bs ++ sheet) is ∙ append_assoc first rest sheet)

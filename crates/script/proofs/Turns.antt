@@ -1,6 +1,7 @@
 -- What a command leaves of its site's table and of the slots.
 use Rattle.std.proofs.Common.{◌≡◌, ℕ, ◌<◌, List, [], length, get_or, set, sym, ap, ◌∙◌, subst}
 use Rattle.std.proofs.lemmas.List.{get_or_default}
+use Rattle.kind.specs.Meaning.{Meaning}
 use Rattle.table.specs.View.{View}
 use Rattle.script.specs.declared.command.Command.{Command}
 use Rattle.script.specs.Acts.{Outcome, Reply}
@@ -13,5 +14,5 @@ settled_in slots slot k none now_held f after a same within e =
     (λ i. record { table = after; slots = set slots (same i) now_held; answer = a }) ∙ ap (site_turn slots slot) (e ∙ ap f got)
 
 -- a command under its variant's name
-pub as_named : (v : View) (slots : List (List ℕ)) (c named : Command) (t : SiteTurn) → c ≡ named → ActsAt v slots named t → ActsAt v slots c t
-as_named v slots c named t is acts = subst (λ k. ActsAt v slots k t) (sym is) acts
+pub as_named : (kind : Meaning) (v : View) (slots : List (List ℕ)) (c named : Command) (t : SiteTurn) → c ≡ named → ActsAt kind v slots named t → ActsAt kind v slots c t
+as_named kind v slots c named t is acts = subst (λ k. ActsAt kind v slots k t) (sym is) acts

@@ -1,7 +1,7 @@
 -- What each command does at one site, in terms of the table's calls. Assumes nothing.
 use Rattle.std.specs.Prelude.{◌≡◌, ℕ, List, length, ℤ, Some, None, Ok, Err, Option, Result}
 use Rattle.action.specs.declared.refusal.Refusal.{Refusal}
-use Rattle.kind.specs.Meanings.{on_hand}
+use Rattle.kind.specs.Meaning.{Meaning}
 use Rattle.table.specs.declared.table_fault.TableFault.{TableFault}
 use Rattle.table.specs.Answers.{figure, figure_refusal, open_item, open_item_refusal}
 use Rattle.table.specs.Faults.{shown}
@@ -35,34 +35,34 @@ abbrev pub refused_at : View → List ℕ → Refusal → Outcome
 refused_at v slot r = record { table = v; slot = slot; answer = Err r }
 
 -- M, with the write done: commit into the slot, or abandon
-abbrev pub outcome_once_written : View → View → ℕ → List ℕ → Outcome
-outcome_once_written v w time slot =
-    by_refusal (commit_refusal on_hand w (ticket on_hand v)) (refused_at (abandoned w) slot)
+abbrev pub outcome_once_written : Meaning → View → View → ℕ → List ℕ → Outcome
+outcome_once_written kind v w time slot =
+    by_refusal (commit_refusal kind w (ticket kind v)) (refused_at (abandoned w) slot)
     (record {
-      table = committed on_hand w;
-      slot = fitting (transaction_bytes on_hand w) blank;
+      table = committed kind w;
+      slot = fitting (transaction_bytes kind w) blank;
       answer = Ok (Time time);
     })
 
 -- M, with the transaction open: write with operation 1, or abandon
-abbrev pub outcome_once_opened : View → View → ℕ → ℤ → List ℕ → Outcome
-outcome_once_opened v w article amount slot =
-    by_refusal (write_refusal on_hand w (ticket on_hand v) article 1 amount) (refused_at (abandoned w) slot)
-    (outcome_once_written v (written w (new_action w article 1 amount)) (next_time w) slot)
+abbrev pub outcome_once_opened : Meaning → View → View → ℕ → ℤ → List ℕ → Outcome
+outcome_once_opened kind v w article amount slot =
+    by_refusal (write_refusal kind w (ticket kind v) article 1 amount) (refused_at (abandoned w) slot)
+    (outcome_once_written kind v (written w (new_action w article 1 amount)) (next_time w) slot)
 
 -- M: a transaction of one write. It answers the write's time
-abbrev pub move_outcome : View → ℕ → ℤ → List ℕ → Outcome
-move_outcome v article amount slot =
-    by_refusal (open_refusal v) (refused_at v slot) (outcome_once_opened v (opened v) article amount slot)
+abbrev pub move_outcome : Meaning → View → ℕ → ℤ → List ℕ → Outcome
+move_outcome kind v article amount slot =
+    by_refusal (open_refusal v) (refused_at v slot) (outcome_once_opened kind v (opened v) article amount slot)
 
 -- O: the offer goes into the slot, and its length is answered
-abbrev pub offer_outcome : View → ℕ → ℕ → List ℕ → Outcome
-offer_outcome v peer article slot =
-    by_refusal (offer_refusal on_hand v peer article blank) (refused_at v slot)
+abbrev pub offer_outcome : Meaning → View → ℕ → ℕ → List ℕ → Outcome
+offer_outcome kind v peer article slot =
+    by_refusal (offer_refusal kind v peer article blank) (refused_at v slot)
     (record {
       table = v;
-      slot = offer_bytes on_hand v peer article;
-      answer = Ok (Length (length (offer_bytes on_hand v peer article)));
+      slot = offer_bytes kind v peer article;
+      answer = Ok (Length (length (offer_bytes kind v peer article)));
     })
 
 -- how many actions were new, or the refusal
@@ -71,8 +71,8 @@ take_reply (Ok n) = Ok (Taken n)
 take_reply (Err e) = Err (shown e)
 
 -- T: the message in the slot is taken whole, or refused and nothing is changed
-abbrev pub TookSlot : View → List ℕ → Reply → View → Type 0
-TookSlot v slot a after = (r : Result ℕ TableFault) × Took on_hand v slot r after × (a ≡ take_reply r)
+abbrev pub TookSlot : Meaning → View → List ℕ → Reply → View → Type 0
+TookSlot kind v slot a after = (r : Result ℕ TableFault) × Took kind v slot r after × (a ≡ take_reply r)
 
 -- F
 abbrev pub figure_reply : View → ℕ → Reply
@@ -90,10 +90,10 @@ reply_of (Err e) = Err (LineFaults.shown e)
 
 -- what the two commands that write into a slot leave and answer
 
-abbrev pub MovedSlot : View → ℕ → ℤ → List ℕ → Result Answer LineFault → View → List ℕ → Type 0
-MovedSlot v article amount slot r after now_held =
-    record { table = after; slot = now_held; answer = reply_of r } ≡ move_outcome v article amount slot
+abbrev pub MovedSlot : Meaning → View → ℕ → ℤ → List ℕ → Result Answer LineFault → View → List ℕ → Type 0
+MovedSlot kind v article amount slot r after now_held =
+    record { table = after; slot = now_held; answer = reply_of r } ≡ move_outcome kind v article amount slot
 
-abbrev pub OfferedSlot : View → ℕ → ℕ → List ℕ → Result Answer LineFault → List ℕ → Type 0
-OfferedSlot v peer article slot r now_held =
-    record { table = v; slot = now_held; answer = reply_of r } ≡ offer_outcome v peer article slot
+abbrev pub OfferedSlot : Meaning → View → ℕ → ℕ → List ℕ → Result Answer LineFault → List ℕ → Type 0
+OfferedSlot kind v peer article slot r now_held =
+    record { table = v; slot = now_held; answer = reply_of r } ≡ offer_outcome kind v peer article slot

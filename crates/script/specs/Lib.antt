@@ -2,6 +2,7 @@ pub mod Acts
 pub mod Desk
 pub mod Faults
 pub mod Lines
+pub mod Moves
 pub mod Scripts
 pub mod Sheets
 pub mod Slots

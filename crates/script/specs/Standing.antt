@@ -4,7 +4,7 @@ use Rattle.std.specs.Prelude.{◌≡◌, ℕ, ◌+◌, ◌<◌, false, cond, ◌
 use Rattle.std.specs.List.{ContainsAt as Has, AllByRecursion}
 use Rattle.std.specs.declared.alloc.AllocError.{AllocError}
 use Rattle.action.specs.Lawful.{by_history, by_table}
-use Rattle.kind.specs.Meanings.{on_hand}
+use Rattle.kind.specs.Meaning.{Meaning}
 use Rattle.table.specs.declared.table_fault.TableFault.{TableFault}
 use Rattle.table.specs.declared.ticket.Ticket.{Ticket}
 use Rattle.table.specs.Faults.{shown}
@@ -31,12 +31,12 @@ Kept run bytes = (bytes ≡ []) ⊎ Has (map (λ event. wrote event.call) run) b
 -- the desk stands at the end of this run: its events, the latest first, led from new tables of three sites
 -- with four articles and 64 places to the desk's, no transaction is open, and each slot holds nothing or
 -- what one of them wrote
-pub record AfterRun (group : Group) (run : List Event) (d : DeskView) : Type 0 where
+pub record AfterRun (kind : Meaning) (group : Group) (run : List Event) (d : DeskView) : Type 0 where
   pub group_is : group.number ≡ 1
   pub sites_are : group.sites ≡ 3
   pub articles_are : group.articles ≡ 4
   pub places_are : (site : ℕ) → site < 3 → group.capacity site ≡ 64
-  pub ran : Ran on_hand group run (table_at d)
+  pub ran : Ran kind group run (table_at d)
   pub closed : (site : ℕ) → site < 3 → (table_at d site).is_open ≡ false
   pub slots : AllByRecursion (Kept run) d.slots
 
@@ -44,10 +44,10 @@ pub record AfterRun (group : Group) (run : List Event) (d : DeskView) : Type 0 w
 
 -- the article's figure by all movements of the run that the site has, each counted once; refused by 4 above
 -- article 3
-abbrev pub counted_figure : Group → List Event → ℕ → ℕ → Reply
-counted_figure group run site article =
+abbrev pub counted_figure : Meaning → Group → List Event → ℕ → ℕ → Reply
+counted_figure kind group run site article =
     cond (nat_lt article 4)
-    (Ok (Answers.Figure (counted on_hand (book group run) site article)))
+    (Ok (Answers.Figure (counted kind (book group run) site article)))
     (Err (by_table 4 0))
 
 -- how long the offer is, or the refusal
@@ -60,97 +60,97 @@ abbrev pub open_and_write : ℕ → Ticket → ℕ → ℤ → Result ℕ TableF
 open_and_write site t article amount r = at site (Writes t article 1 amount r) ∷ (at site (Opens (Ok t)) ∷ [])
 
 -- after this run, which led to this desk, a command makes these calls, the latest first, and answers this
-pub data Makes (group : Group) (run : List Event) (d : DeskView) : Command → Reply → List Event → Type 0 where
+pub data Makes (kind : Meaning) (group : Group) (run : List Event) (d : DeskView) : Command → Reply → List Event → Type 0 where
   -- M: open, write and commit. The open is granted. Where the write is refused, by 4 or 8, or the commit, by 16
   -- at the 64 places, the transaction is abandoned. A commit is of one action, and its message of 37 bytes
   moves :
       (site article slot : ℕ) (amount : ℤ) (t : Ticket) (time : ℕ) (after : List ℕ) (n : ℕ × ℕ) →
       n ≡ (1, 37) →
-      Makes group run d (Move site article amount slot) (Ok (Answers.Time time))
+      Makes kind group run d (Move site article amount slot) (Ok (Answers.Time time))
       (at site (Commits t blank (Ok n) after) ∷ open_and_write site t article amount (Ok time))
   commit_refused :
       (site article slot : ℕ) (amount : ℤ) (t : Ticket) (time : ℕ) (e : TableFault) →
       shown e ≡ by_history 16 64 →
-      Makes group run d (Move site article amount slot) (Err (shown e))
+      Makes kind group run d (Move site article amount slot) (Err (shown e))
       (at site (Abandons t (Ok tt)) ∷
       (at site (Commits t blank (Err (e, t)) blank) ∷ open_and_write site t article amount (Ok time)))
   write_refused :
       (site article slot : ℕ) (amount : ℤ) (t : Ticket) (e : TableFault) →
       (shown e ≡ by_table 4 0) ⊎ (shown e ≡ by_table 8 0) →
-      Makes group run d (Move site article amount slot) (Err (shown e))
+      Makes kind group run d (Move site article amount slot) (Err (shown e))
       (at site (Abandons t (Ok tt)) ∷ open_and_write site t article amount (Err e))
   -- O, into the 1,200 bytes that a message is written into, in which there is room for every offer: it is
   -- refused by 4 or 5
   offers :
       (site peer article slot : ℕ) (after : List ℕ) (r : Result ℕ TableFault) →
       IfErr r (λ e. (shown e ≡ by_table 4 0) ⊎ (shown e ≡ by_table 5 0)) →
-      Makes group run d (Offer site peer article slot) (offer_reply r)
+      Makes kind group run d (Offer site peer article slot) (offer_reply r)
       (at site (Offers peer article blank r after) ∷ [])
   -- T, of exactly the bytes that the slot holds
   takes :
       (site slot : ℕ) (r : Result ℕ TableFault) →
-      Makes group run d (Take site slot) (take_reply r)
+      Makes kind group run d (Take site slot) (take_reply r)
       (at site (Takes (slice_index_or d.slots slot []) r) ∷ [])
   -- F, as the run counts, and P, as the site's table shows: they change no table
   figures :
       (site article : ℕ) →
-      Makes group run d (Figure site article) (counted_figure group run site article) []
+      Makes kind group run d (Figure site article) (counted_figure kind group run site article) []
   open_items :
       (site peer article : ℕ) →
-      Makes group run d (OpenItem site peer article) (open_item_reply (table_at d site) peer article) []
+      Makes kind group run d (OpenItem site peer article) (open_item_reply (table_at d site) peer article) []
 
 -- a line answers this and makes these calls; a refused one leaves the desk as it was, its tables and its slots
-abbrev pub MakesLine : Group → List Event → DeskView → ℕ → Option Command → Reply → List Event → DeskView → Type 0
-MakesLine group run d index None a calls after = (calls ≡ []) × (after ≡ d) × (a ≡ Err (by_table 18 index))
-MakesLine group run d index (Some c) a calls after = Makes group run d c a calls × OnErr a (after ≡ d)
+abbrev pub MakesLine : Meaning → Group → List Event → DeskView → ℕ → Option Command → Reply → List Event → DeskView → Type 0
+MakesLine kind group run d index None a calls after = (calls ≡ []) × (after ≡ d) × (a ≡ Err (by_table 18 index))
+MakesLine kind group run d index (Some c) a calls after = Makes kind group run d c a calls × OnErr a (after ≡ d)
 
 -- the line of this number does to the desk what its letter does, answers this and makes these calls, and the
 -- desk that it leaves stands at the end of the longer run
-abbrev pub Plays : Group → List Event → DeskView → ℕ → List ℕ → Reply → List Event → DeskView → Type 0
-Plays group run d index line a calls after =
-    Performs d index line a after × MakesLine group run d index (command line) a calls after ×
-    AfterRun group (calls ++ run) after
+abbrev pub Plays : Meaning → Group → List Event → DeskView → ℕ → List ℕ → Reply → List Event → DeskView → Type 0
+Plays kind group run d index line a calls after =
+    Performs kind d index line a after × MakesLine kind group run d index (command line) a calls after ×
+    AfterRun kind group (calls ++ run) after
 
 -- one line after another from the number of the first: the run and the desk that they lead to, and all that
 -- they print
-abbrev pub PlaysAll : Group → List Event → DeskView → ℕ → List (List ℕ) → List Event → DeskView → List ℕ → Type 0
-PlaysAll group run d index [] later after bytes = (later ≡ run) × (after ≡ d) × (bytes ≡ [])
-PlaysAll group run d index (line ∷ lines) later after bytes =
+abbrev pub PlaysAll : Meaning → Group → List Event → DeskView → ℕ → List (List ℕ) → List Event → DeskView → List ℕ → Type 0
+PlaysAll kind group run d index [] later after bytes = (later ≡ run) × (after ≡ d) × (bytes ≡ [])
+PlaysAll kind group run d index (line ∷ lines) later after bytes =
     (calls : List Event) × (between : DeskView) × (sheet : List ℕ) × (rest : List ℕ) ×
-    Printed line sheet (λ a. Plays group run d index line a calls between) ×
-    PlaysAll group (calls ++ run) between (index + 1) lines later after rest ×
+    Printed line sheet (λ a. Plays kind group run d index line a calls between) ×
+    PlaysAll kind group (calls ++ run) between (index + 1) lines later after rest ×
     (bytes ≡ sheet ++ rest)
 
 -- EVERY SCRIPT
 
 -- all lines, numbered from 0, are played and printed; or some are, and one more is played, whose bytes do not
 -- fit: what was to be printed with them is longer than the capacity that the output had
-abbrev pub Tallied : Group → List Event → DeskView → List ℕ → List ℕ → ℕ → Result Unit AllocError → DeskView → List ℕ → Type 0
-Tallied group run d input out capacity (Ok _) after grown =
+abbrev pub Tallied : Meaning → Group → List Event → DeskView → List ℕ → List ℕ → ℕ → Result Unit AllocError → DeskView → List ℕ → Type 0
+Tallied kind group run d input out capacity (Ok _) after grown =
     (later : List Event) × (sheet : List ℕ) ×
-    PlaysAll group run d 0 (script input) later after sheet × AfterRun group later after ×
+    PlaysAll kind group run d 0 (script input) later after sheet × AfterRun kind group later after ×
     (grown ≡ out ++ sheet)
-Tallied group run d input out capacity (Err _) after grown =
+Tallied kind group run d input out capacity (Err _) after grown =
     (done : List (List ℕ)) × (line : List ℕ) × (rest : List (List ℕ)) ×
     (script input ≡ done ++ (line ∷ rest)) ×
     (later : List Event) × (between : DeskView) × (sheet : List ℕ) ×
-    PlaysAll group run d 0 done later between sheet ×
+    PlaysAll kind group run d 0 done later between sheet ×
     (calls : List Event) × (lost : List ℕ) ×
-    Printed line lost (λ a. Plays group later between (length done) line a calls after) ×
+    Printed line lost (λ a. Plays kind group later between (length done) line a calls after) ×
     (grown ≡ out ++ sheet) × (capacity < length grown + length lost)
 
 -- a new desk stands at the end of a run of no events
-abbrev pub NewStands : DeskView → Type 0
-NewStands d = (group : Group) × AfterRun group [] d
+abbrev pub NewStands : Meaning → DeskView → Type 0
+NewStands kind d = (group : Group) × AfterRun kind group [] d
 
 -- wherever the desk stood before the line
-abbrev pub LineStands : DeskView → ℕ → List ℕ → Reply → DeskView → Type 0
-LineStands d index line a after =
-    (group : Group) (run : List Event) → AfterRun group run d →
-    (calls : List Event) × Plays group run d index line a calls after
+abbrev pub LineStands : Meaning → DeskView → ℕ → List ℕ → Reply → DeskView → Type 0
+LineStands kind d index line a after =
+    (group : Group) (run : List Event) → AfterRun kind group run d →
+    (calls : List Event) × Plays kind group run d index line a calls after
 
 -- wherever it stood before the script
-abbrev pub ScriptStands : DeskView → List ℕ → List ℕ → ℕ → Result Unit AllocError → DeskView → List ℕ → Type 0
-ScriptStands d input out capacity r after grown =
-    (group : Group) (run : List Event) → AfterRun group run d →
-    Tallied group run d input out capacity r after grown
+abbrev pub ScriptStands : Meaning → DeskView → List ℕ → List ℕ → ℕ → Result Unit AllocError → DeskView → List ℕ → Type 0
+ScriptStands kind d input out capacity r after grown =
+    (group : Group) (run : List Event) → AfterRun kind group run d →
+    Tallied kind group run d input out capacity r after grown

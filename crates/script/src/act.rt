@@ -7,19 +7,22 @@ ghost use Rattle.script.specs.Lines.{Placed};
 use crate::answer::Answer;
 use crate::command::Command;
 use crate::line_fault::LineFault;
+use crate::movable::Movable;
 use crate::slot::{SLOT_BYTES, SLOTS, Slot};
 use history::History;
-use kind::OnHand;
 use table::Table;
 
+// The operation that `M` writes.
+const MOVE: u8 = 1;
+
 // Does what the command asks, at the table of its site.
-pub(crate) fn act_at<H: History>(
-    table: &mut Table<OnHand, H>,
+pub(crate) fn act_at<K: Movable, H: History>(
+    table: &mut Table<K, H>,
     slots: &mut [Slot; SLOTS],
     command: Command,
 ) -> Result<Answer, LineFault>
     requires { Placed command }
-    ensures { ActedAt table.old slots.old command result table.new slots.new }
+    ensures { ActedAt K.means table.old slots.old command result table.new slots.new }
 {
     match command {
         Command::Move {
@@ -43,18 +46,18 @@ pub(crate) fn act_at<H: History>(
 }
 
 // Commits a transaction of one write, whose message goes into the slot.
-fn move_stock<H: History>(
-    table: &mut Table<OnHand, H>,
+fn move_stock<K: Movable, H: History>(
+    table: &mut Table<K, H>,
     article: u8,
     amount: i32,
     slot: &mut Slot,
 ) -> Result<Answer, LineFault>
-    ensures { MovedSlot table.old article amount slot.old result table.new slot.new }
+    ensures { MovedSlot K.means table.old article amount slot.old result table.new slot.new }
 {
     let ticket = table.open()?;
     let mut buffer = [0; SLOT_BYTES];
     // Where the write or the commit is refused, the ticket is left over.
-    let posted = match table.write(&ticket, article, OnHand::ADD, amount) {
+    let posted = match table.write(&ticket, article, MOVE, amount) {
         Ok(time) => table
             .commit(ticket, &mut buffer)
             .map(|(_, length)| (time, length)),
@@ -74,13 +77,13 @@ fn move_stock<H: History>(
 }
 
 // Offers the article to the peer, into the slot.
-fn offer_article<H: History>(
-    table: &Table<OnHand, H>,
+fn offer_article<K: Movable, H: History>(
+    table: &Table<K, H>,
     peer: u8,
     article: u8,
     slot: &mut Slot,
 ) -> Result<Answer, LineFault>
-    ensures { OfferedSlot table.now peer article slot.old result slot.new }
+    ensures { OfferedSlot K.means table.now peer article slot.old result slot.new }
 {
     let mut buffer = [0; SLOT_BYTES];
     let length = table.offer(peer, article, &mut buffer)?;
@@ -89,8 +92,11 @@ fn offer_article<H: History>(
 }
 
 // Takes the message in the slot, which keeps it.
-fn take_slot<H: History>(table: &mut Table<OnHand, H>, slot: &Slot) -> Result<Answer, LineFault>
-    ensures { TookSlot table.old slot.now (reply_of result) table.new }
+fn take_slot<K: Movable, H: History>(
+    table: &mut Table<K, H>,
+    slot: &Slot,
+) -> Result<Answer, LineFault>
+    ensures { TookSlot K.means table.old slot.now (reply_of result) table.new }
 {
     Ok(Answer::Taken(table.take(slot.message())?))
 }

@@ -10,11 +10,11 @@ use crate::act::act_at;
 use crate::answer::{Answer, print};
 use crate::command::{Command, SITES, parse};
 use crate::line_fault::LineFault;
+use crate::movable::Movable;
 use crate::sheet_line::SheetLine;
 use crate::slot::{SLOTS, Slot};
 use action::Setup;
 use history::{History, PLACE_BYTES, Rack, Strip};
-use kind::OnHand;
 use std::alloc::{AllocError, Global};
 use std::marker::Model;
 use table::Table;
@@ -34,15 +34,15 @@ const STRIP_BYTES: usize = PLACES * PLACE_BYTES;
 /// Three sites of one group, and the slots for their messages (docs/TALLY.md, section 2).
 /// The first two sites keep their actions in racks, the third in a strip.
 #[derive(Drop)]
-pub struct Desk {
-    pub(crate) first: Table<OnHand, Rack>,
-    pub(crate) second: Table<OnHand, Rack>,
-    pub(crate) third: Table<OnHand, Strip>,
+pub struct Desk<K: Movable> {
+    pub(crate) first: Table<K, Rack>,
+    pub(crate) second: Table<K, Rack>,
+    pub(crate) third: Table<K, Strip>,
     pub(crate) slots: [Slot; SLOTS],
 }
 
 // Contracts see what the tables hold and the messages in the slots.
-impl Model for Desk {
+impl<K: Movable> Model for Desk<K> {
     ghost use Rattle.script.specs.Desk.{DeskView};
 
     ghost Value = { DeskView };
@@ -51,14 +51,14 @@ impl Model for Desk {
         record { first = d.first; second = d.second; third = d.third; slots = d.slots } };
 }
 
-impl Desk {
+impl<K: Movable> Desk<K> {
     /// A desk on which nothing has moved yet, with empty slots. `AllocError` where there is no memory for it;
     /// no other call of a desk asks for memory.
-    pub fn new(heap: Global) -> Result<Desk, AllocError>
-        ensures fresh { IfOk result (λ desk. FreshDesk desk) }
+    pub fn new(heap: Global) -> Result<Desk<K>, AllocError>
+        ensures fresh { IfOk result (λ desk. FreshDesk K.means desk) }
 
         // It stands at the end of a run of no events.
-        ensures stands { IfOk result (λ desk. NewStands desk) }
+        ensures stands { IfOk result (λ desk. NewStands K.means desk) }
     {
         Desk::make(heap)
     }
@@ -66,11 +66,11 @@ impl Desk {
     /// Runs one line, without the byte that ends it; `index` is its number in the script, the first being 0.
     /// Answers what the line answers, or its fault, and beside it what is printed for the line.
     pub fn run(&mut self, index: usize, line: &[u8]) -> (Result<Answer, LineFault>, SheetLine)
-        ensures does { Performs self.old index line.now (reply_of result.0) self.new }
+        ensures does { Performs K.means self.old index line.now (reply_of result.0) self.new }
         ensures printed { sheet_bytes result.1 ≡ sheet_of line.now (reply_of result.0) }
 
         // Where the desk stood at the end of a run, it now stands at the end of that run plus the calls made here.
-        ensures stands { LineStands self.old index line.now (reply_of result.0) self.new }
+        ensures stands { LineStands K.means self.old index line.now (reply_of result.0) self.new }
     {
         let command = parse(line);
         let letter = command.map_or('?', |command| command.letter());
@@ -79,8 +79,8 @@ impl Desk {
     }
 
     // The desk that `new` answers. That it stands at the end of a run follows from this contract alone.
-    fn make(heap: Global) -> Result<Desk, AllocError>
-        ensures { IfOk result (λ desk. FreshDesk desk) }
+    fn make(heap: Global) -> Result<Desk<K>, AllocError>
+        ensures { IfOk result (λ desk. FreshDesk K.means desk) }
     {
         Ok(Desk {
             first: Table::new(setup(0), Rack::new(heap, PLACES)?),
@@ -97,7 +97,7 @@ impl Desk {
         command: Option<Command>,
     ) -> Result<Answer, LineFault>
         requires { ForSome command Placed }
-        ensures { PerformsCommand self.old index command (reply_of result) self.new }
+        ensures { PerformsCommand K.means self.old index command (reply_of result) self.new }
     {
         match command {
             Some(command) => self.act(command),
@@ -108,7 +108,7 @@ impl Desk {
     // Does the command at the table of its site.
     fn act(&mut self, command: Command) -> Result<Answer, LineFault>
         requires { Placed command }
-        ensures { Acted self.old command result self.new }
+        ensures { Acted K.means self.old command result self.new }
     {
         match command.site() {
             0 => act_at(&mut self.first, &mut self.slots, command),

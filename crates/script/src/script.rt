@@ -4,6 +4,7 @@ ghost use Rattle.script.specs.Scripts.{Scripted, lines};
 ghost use Rattle.script.specs.Standing.{ScriptStands};
 
 use crate::desk::Desk;
+use crate::movable::Movable;
 use std::alloc::AllocError;
 
 /// How many bytes of a script count. Those after them are not looked at (docs/TALLY.md, section 1).
@@ -11,12 +12,16 @@ pub const LONGEST_SCRIPT: usize = 32_768;
 
 /// Runs the lines of a script on the desk, and appends to `out` what is printed for them.
 /// It fails only where `out` has no capacity left for that and there is no memory for more.
-pub fn run_script(desk: &mut Desk, input: &[u8], out: &mut Vec<u8>) -> Result<(), AllocError>
-    ensures does { Scripted desk.old input.now out.old.items (vec_capacity out.old) result desk.new out.new.items }
+pub fn run_script<K: Movable>(
+    desk: &mut Desk<K>,
+    input: &[u8],
+    out: &mut Vec<u8>,
+) -> Result<(), AllocError>
+    ensures does { Scripted K.means desk.old input.now out.old.items (vec_capacity out.old) result desk.new out.new.items }
 
     // Where the desk stood at the end of a run, it now stands at the end of that run plus the calls made here.
     // Each figure that is printed is what the run counts.
-    ensures stands { ScriptStands desk.old input.now out.old.items (vec_capacity out.old) result desk.new out.new.items }
+    ensures stands { ScriptStands K.means desk.old input.now out.old.items (vec_capacity out.old) result desk.new out.new.items }
 {
     let text = &input[..input.len().min(LONGEST_SCRIPT)];
     for (index, line) in (Lines { text }).enumerate() {

@@ -13,7 +13,7 @@ fn main(rt: HostRuntime) -> io::Result<()> {
     rt.stdin()
         .take(LONGEST_SCRIPT as u64)
         .read_to_end(&mut input)?;
-    let mut desk = Desk::new(rt.alloc())?;
+    let mut desk = Desk::<OnHand>::new(rt.alloc())?;
     let mut out = Vec::new(rt.alloc());
     run_script(&mut desk, &input, &mut out)?;
     rt.stdout().write_all(&out)

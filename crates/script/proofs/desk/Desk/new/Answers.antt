@@ -1,13 +1,10 @@
-use Rattle.std.proofs.Common.{IfOk, Ok, Err, Result}
-use Rattle.std.specs.declared.alloc.AllocError.{AllocError}
-use Rattle.script.specs.Desk.{DeskView, FreshDesk}
+use Rattle.std.proofs.lemmas.Result.{IfOk-weaker}
+use Rattle.script.specs.Desk.{FreshDesk}
 use Rattle.script.specs.Standing.{NewStands}
 use Rattle.script.proofs.Standing.{new_stands}
 use Rattle.script.proofs.desk.Desk.new.Goals as goal
 
-where_made : (r : Result DeskView AllocError) → IfOk r (λ desk. FreshDesk desk) → IfOk r (λ desk. NewStands desk)
-where_made (Ok desk) new = new_stands desk new
-where_made (Err e) none = none
-
 pub returns : goal.returns
-returns c = record { fresh = c.make.ensures; stands = where_made c.make.result c.make.ensures }
+returns g c =
+    let kind = g.K.Kind.means in
+    record { fresh = c.make.ensures; stands = IfOk-weaker c.make.result (FreshDesk kind) (NewStands kind) (new_stands kind) c.make.ensures }
