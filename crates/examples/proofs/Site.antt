@@ -15,7 +15,7 @@ use Rattle.table.specs.Transactions.{commit_refusal, fitting, new_action, open_r
 use Rattle.table.specs.View.{View, fresh}
 use Rattle.table.proofs.Soundness.{commit_keeps, fresh_sound, open_keeps, write_keeps}
 use Rattle.table.proofs.Taken.{take_keeps}
-use Rattle.examples.specs.Table.{at, of_site_1, part, posted, setup, site, telling, twice_posted}
+use Rattle.examples.specs.Table.{at, of_site_1, part, posted, room, setup, site, telling, twice_posted}
 
 -- a granted transaction of one write leaves a sound table sound
 posted_sound : (v : View) → Sound on_hand v → open_refusal v ≡ None → write_refusal on_hand (opened v) (ticket on_hand v) 0 1 (pos 10) ≡ None → commit_refusal on_hand (written (opened v) (new_action v 0 1 (pos 10))) (ticket on_hand v) ≡ None → Sound on_hand (posted v)
@@ -73,8 +73,8 @@ of_site_1_lawful = section_lawful 1 0 2 (lit< tt) (lit≤ tt) (lit≤ tt) of_sit
 
 pub twice_posted_sound : Sound on_hand twice_posted
 twice_posted_sound =
-    let first = fresh on_hand setup 64 in
-    let first_sound = fresh_sound on_hand setup 64 (lit≤ tt) (sfits_lit tt) in
+    let first = fresh on_hand setup room in
+    let first_sound = fresh_sound on_hand setup room (lit≤ tt) (sfits_lit tt) in
     posted_sound (posted first) (posted_sound first first_sound refl refl refl) refl refl refl
 
 pub site_sound : Sound on_hand site

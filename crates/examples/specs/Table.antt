@@ -6,6 +6,7 @@ use Rattle.action.specs.declared.refusal.Refusal.{Refusal}
 use Rattle.action.specs.declared.setup.Setup.{Setup}
 use Rattle.action.specs.Lawful.{by_table}
 use Rattle.action.specs.Order.{precedes}
+use Rattle.history.specs.Room.{Room}
 use Rattle.kind.specs.Meanings.{on_hand, on_hand_step, flags_step, price_step}
 use Rattle.kind.specs.Working.{working}
 use Rattle.message.specs.Format.{Message, Section}
@@ -40,6 +41,10 @@ setup = record {
   few_articles = lit≤ tt;
 }
 
+-- room for 64 actions
+abbrev pub room : Room
+room = record { places = 64 }
+
 -- the table after a transaction of one write, +10 on article 0
 abbrev pub posted : View → View
 posted v = committed on_hand (written (opened v) (new_action v 0 1 (pos 10)))
@@ -58,7 +63,7 @@ abbrev pub of_site_1 : List Action
 of_site_1 = at 1 1 ∷ at 2 1 ∷ []
 
 abbrev pub twice_posted : View
-twice_posted = posted (posted (fresh on_hand setup 64))
+twice_posted = posted (posted (fresh on_hand setup room))
 
 -- a new table that has posted twice and taken the message of site 1's two actions. On article 0 it has its own
 -- actions, and those of site 1, up to time 2

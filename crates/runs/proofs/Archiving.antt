@@ -79,7 +79,7 @@ module _ (kind : Meaning) (step_fits : (f : ℤ) (o : ℕ) (a : ℤ) → SFits w
     archive_site sound = record {
       sound = sound;
       setup_is = site.setup_is;
-      capacity_is = site.capacity_is;
+      room_is = site.room_is;
       vector = λ c q cl ql. same_entry c s q ∙ site.vector c q cl ql;
       clock_is = site.clock_is;
       pending_is = site.pending_is;

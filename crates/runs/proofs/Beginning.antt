@@ -13,15 +13,15 @@ use Rattle.runs.proofs.Greatest.{greatest_is}
 use Rattle.runs.proofs.Standing.{Site, Standing}
 
 module _ (kind : Meaning) (start_fits : SFits w64 kind.starts) (group : Group) where
-  fresh_site : (s : ℕ) → s < group.sites → Site kind group blank s (fresh kind (group.setup s) (group.capacity s))
+  fresh_site : (s : ℕ) → s < group.sites → Site kind group blank s (fresh kind (group.setup s) (group.room s))
   fresh_site s sl =
       let setup = group.setup s in
       let places = group.few_places s sl in
-      let none : (a z q : ℕ) → _ = fresh_entry kind setup (group.capacity s) places start_fits in
+      let none : (a z q : ℕ) → _ = fresh_entry kind setup (group.room s) places start_fits in
       record {
-        sound = fresh_sound kind setup (group.capacity s) places start_fits;
+        sound = fresh_sound kind setup (group.room s) places start_fits;
         setup_is = refl;
-        capacity_is = refl;
+        room_is = refl;
         vector = λ a q al ql. none a s q;
         clock_is = greatest_is group blank s 0 (λ a q al ql. omega arith) (λ d lt. absurd (omega (arith, lt)));
         pending_is = refl;

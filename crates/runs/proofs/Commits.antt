@@ -8,6 +8,7 @@ use Rattle.action.specs.declared.action.Action.{Action}
 use Rattle.action.specs.Order.{Ascending, Distinct}
 use Rattle.action.proofs.Members.{all_from_has, has_append_cases, has_kept_by, has_kept_by_parts}
 use Rattle.action.proofs.Sequence.{ascending_append, ascending_kept}
+use Rattle.history.specs.Room.{Fits}
 use Rattle.kind.specs.Meaning.{Meaning}
 use Rattle.kind.specs.Working.{on}
 use Rattle.kind.proofs.Workings.{on_append}
@@ -102,7 +103,7 @@ module _ (kind : Meaning) (group : Group) (b : Book) (s : ℕ) (of_group : s < g
 
   -- THE SITE
 
-  module _ (free : length v.history + length v.pending ≤ v.capacity) where
+  module _ (free : Fits v.room v.history v.pending) where
     sound : Sound kind w
     sound = committed_sound kind v site.sound free
 
@@ -200,7 +201,7 @@ module _ (kind : Meaning) (group : Group) (b : Book) (s : ℕ) (of_group : s < g
     commit_site = record {
       sound = sound;
       setup_is = site.setup_is;
-      capacity_is = site.capacity_is;
+      room_is = site.room_is;
       vector = vector;
       clock_is = greatest_is group after s w.clock (λ a q al ql. omega (arith, sym (vector a q al ql), ap (λ (n : ℕ). entry w a n q) own_s, sound.clocked a q)) clock_below;
       pending_is = cond-true (eqb s s) [] (b.pending s) (eq-eqb s s refl);

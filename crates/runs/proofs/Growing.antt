@@ -132,7 +132,7 @@ module _ (kind : Meaning) (group : Group) (s : ℕ) (of_group : s < group.sites)
     other_site h = record {
       sound = h.sound;
       setup_is = h.setup_is;
-      capacity_is = h.capacity_is;
+      room_is = h.room_is;
       vector = λ a q al ql. h.vector a q al ql ∙ sym (other_reach z a q ne);
       clock_is = h.clock_is ∙ sym (ap (λ (r : ℕ → ℕ → ℕ). greatest_of (map (λ a. greatest_of (map (r a) (range_with_len 0 group.sites))) (range_with_len 0 group.articles))) (g.others z ne));
       pending_is = g.others_pending z ne ∙ h.pending_is;

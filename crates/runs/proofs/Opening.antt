@@ -38,7 +38,7 @@ module _ (kind : Meaning) (group : Group) (s : ℕ) (of_group : s < group.sites)
   site_pending pending v is_open xs site sound is = record {
     sound = sound;
     setup_is = site.setup_is;
-    capacity_is = site.capacity_is;
+    room_is = site.room_is;
     vector = site.vector;
     clock_is = site.clock_is;
     pending_is = is;

@@ -52,7 +52,7 @@ pub record Gathered (kind : Meaning) (group : Group) (b : Book) (s : ℕ) (v : V
 pub record Site (kind : Meaning) (group : Group) (b : Book) (s : ℕ) (v : View) : Type 0 where
   pub sound : Sound kind v
   pub setup_is : v.setup ≡ group.setup s
-  pub capacity_is : v.capacity ≡ group.capacity s
+  pub room_is : v.room ≡ group.room s
   pub vector : (a q : ℕ) → a < group.articles → q < group.sites → entry v a s q ≡ b.reach s a q
   pub clock_is : v.clock ≡ greatest group b s
   pub pending_is : b.pending s ≡ v.pending

@@ -238,7 +238,7 @@ module _ (kind : Meaning) (group : Group) (s : ℕ) (b : Book) (v : View) (m : M
   take_site passes sound account = record {
     sound = sound;
     setup_is = site.setup_is;
-    capacity_is = site.capacity_is;
+    room_is = site.room_is;
     vector = vector;
     clock_is = let le = clock_le in let ge = clock_ge in omega arith;
     pending_is = site.pending_is;

@@ -16,7 +16,7 @@ use Rattle.table.specs.Transactions.{committed, fitting, holds, is_written, late
 use Rattle.table.specs.View.{View, entry}
 use Rattle.table.proofs.Lawfulness.{transaction_lawful}
 use Rattle.table.proofs.Rising.{below_counting}
-use Rattle.table.proofs.Soundness.{committed_entry_ge, passed}
+use Rattle.table.proofs.Soundness.{committed_entry_ge, passed, room_for}
 use Rattle.runs.specs.Books.{Book, book}
 use Rattle.runs.specs.Events.{Event, at}
 use Rattle.runs.specs.Events.Call.{Commits}
@@ -98,7 +98,7 @@ module _ (kind : Meaning) (group : Group) (before : List Event) (s : ℕ) (old v
       let l = st.account in
       let is : views s ≡ committed kind v = turn.does.3 in
       let held = passed (holds kind v t) _ _ turn.does.0 in
-      let free = leb-true (length v.history + length v.pending) v.capacity (passed (leb (length v.history + length v.pending) v.capacity) _ _ held.1).0 in
+      let free = room_for v v.pending held.1 in
       let bytes : take n.1 left ≡ fitting (transaction_bytes kind v) buffer = written_back buffer (fitting (transaction_bytes kind v) buffer) left n.1 turn.does.2 turn.does.4 in
       let site_after = subst (Site kind group (after kind group b s of_group v site l) s) (sym is) (commit_site kind group b s of_group v site l free) in
       stands_after kind group before (at s (Commits t buffer (Ok n) left)) old views turn st

@@ -2,6 +2,7 @@
 use Rattle.std.specs.Prelude.{◌≡◌, ℕ, ◌<◌, ◌≤◌, List, [], ◌∷◌, ◌++◌, map, Ok, ◌≢◌}
 use Rattle.std.specs.List.{ContainsAt as Has}
 use Rattle.action.specs.declared.setup.Setup.{Setup}
+use Rattle.history.specs.Room.{Room}
 use Rattle.kind.specs.Meaning.{Meaning}
 use Rattle.table.specs.View.{View, fresh}
 use Rattle.runs.specs.Events.{Call, Does, Event, wrote}
@@ -14,15 +15,15 @@ pub record OfGroup (number sites articles s : ℕ) (setup : Setup) : Type 0 wher
   pub articles_are : setup.articles ≡ articles
   pub own_is : setup.own ≡ s
 
--- the tables of one group: for each site its set-up, and how many places its history has
+-- the tables of one group: for each site its set-up, and what its history has room for
 pub record Group : Type 0 where
   pub number : ℕ
   pub sites : ℕ
   pub articles : ℕ
   pub setup : ℕ → Setup
-  pub capacity : ℕ → ℕ
+  pub room : ℕ → Room
   pub agrees : (s : ℕ) → s < sites → OfGroup number sites articles s (setup s)
-  pub few_places : (s : ℕ) → s < sites → capacity s ≤ 1024
+  pub few_places : (s : ℕ) → s < sites → (room s).places ≤ 1024
 
 -- what is taken was written in an earlier event, byte for byte; it may be taken late, often, anywhere or
 -- never
@@ -40,7 +41,7 @@ pub record Turn (kind : Meaning) (group : Group) (before : List Event) (event : 
 
 -- the events, the latest first, lead from new tables to these
 abbrev pub Ran : Meaning → Group → List Event → (ℕ → View) → Type 0
-Ran kind group [] views = (s : ℕ) → s < group.sites → views s ≡ fresh kind (group.setup s) (group.capacity s)
+Ran kind group [] views = (s : ℕ) → s < group.sites → views s ≡ fresh kind (group.setup s) (group.room s)
 Ran kind group (event ∷ before) views =
     (old : ℕ → View) × Ran kind group before old × Turn kind group before event old views
 

@@ -13,6 +13,7 @@ use Rattle.action.specs.declared.refusal.Refusal.{Refusal}
 use Rattle.action.specs.declared.setup.Setup.{Setup}
 use Rattle.action.specs.Lawful.{by_history, by_table, unless}
 use Rattle.history.specs.declared.history_fault.HistoryFault.TheVariants.{Full}
+use Rattle.history.specs.Room.{Room}
 use Rattle.kind.specs.Meaning.{Meaning}
 use Rattle.message.specs.Buffer.{overwritten}
 use Rattle.message.specs.Format.{Message, format}
@@ -96,8 +97,8 @@ module _ (kind : Meaning) (every_run : EveryRun kind (Standing kind)) (knows_mov
     articles_are : v.setup.articles ≡ 4
     articles_are = ap (λ (s : Setup). s.articles) here.setup_is ∙ (group.agrees site inside).articles_are ∙ stood.articles_are
 
-    places_are : v.capacity ≡ 64
-    places_are = here.capacity_is ∙ stood.places_are site acts
+    places_are : v.room.places ≡ 64
+    places_are = ap (λ (r : Room). r.places) here.room_is ∙ stood.places_are site acts
 
     start : Ran kind group run (table_at (with_table d site v))
     start = subst (λ (e : DeskView). Ran kind group run (table_at e)) (with_its_own d site) stood.ran
@@ -223,7 +224,7 @@ module _ (kind : Meaning) (every_run : EveryRun kind (Standing kind)) (knows_mov
 
         written_goes : Moves (outcome_once_written kind v x time held)
         written_goes =
-            by_checks Moves (λ s. s ≡ by_history 16 64) (refused_at (abandoned x) held) (record { table = committed kind x; slot = message; answer = Ok (Answers.Time time) }) ((holds kind x t, NotItsTicket) ∷ ((leb (length x.history + length x.pending) x.capacity, InHistory (Full x.capacity)) ∷ []))
+            by_checks Moves (λ s. s ≡ by_history 16 64) (refused_at (abandoned x) held) (record { table = committed kind x; slot = message; answer = Ok (Answers.Time time) }) ((holds kind x t, NotItsTicket) ∷ ((leb (length x.history + length x.pending) x.room.places, InHistory (Full x.room.places)) ∷ []))
             (λ no. cc (own_holds x.pending, no), (λ _. ap (by_history 16) places_are, tt))
             (λ e full is.
             let call : Call = Commits t blank (Err (e, t)) blank in

@@ -66,7 +66,7 @@ module _ (kind : Meaning) where
         sites = 3;
         articles = 4;
         setup = λ s. (table_at d s).setup;
-        capacity = λ s. 64;
+        room = λ s. record { places = 64 };
         agrees = λ s inside. let site = fresh_at d new s inside in record { group_is = site.group; sites_are = site.sites; articles_are = site.articles; own_is = site.own };
         few_places = λ s inside. omega arith;
       } in

@@ -23,7 +23,7 @@ pub record FreshSite (kind : Meaning) (site : ℕ) (v : View) : Type 0 where
   pub sites : v.setup.sites ≡ 3
   pub own : v.setup.own ≡ site
   pub articles : v.setup.articles ≡ 4
-  pub new : v ≡ fresh kind v.setup 64
+  pub new : v ≡ fresh kind v.setup (record { places = 64 })
 
 -- a new desk: ten slots that hold nothing
 pub record FreshDesk (kind : Meaning) (d : DeskView) : Type 0 where

@@ -35,7 +35,7 @@ pub record AfterRun (kind : Meaning) (group : Group) (run : List Event) (d : Des
   pub group_is : group.number ≡ 1
   pub sites_are : group.sites ≡ 3
   pub articles_are : group.articles ≡ 4
-  pub places_are : (site : ℕ) → site < 3 → group.capacity site ≡ 64
+  pub places_are : (site : ℕ) → site < 3 → (group.room site).places ≡ 64
   pub ran : Ran kind group run (table_at d)
   pub closed : (site : ℕ) → site < 3 → (table_at d site).is_open ≡ false
   pub slots : AllByRecursion (Kept run) d.slots
