@@ -4,7 +4,7 @@ use Rattle.std.proofs.Common.{refl, leb, leb→le, le_trans, lit≤}
 use Rattle.std.proofs.lemmas.Bool.{and_from, le-leb}
 use Rattle.kind.specs.Meanings.{on_hand_knows}
 
--- the amount has six digits, and a sign
+-- six digits and a sign write the amount
 abbrev pub SixDigits : ℤ → Type 0
 SixDigits z = (neg_ℤ (pos 999999) ≤ℤ z) × (z ≤ℤ pos 999999)
 
