@@ -4,10 +4,8 @@ use Rattle.std.specs.List.{flat_map}
 use Rattle.std.proofs.lemmas.Grind.{flat_map-append}
 use Rattle.std.proofs.lemmas.List.{append-nil, length-append}
 use Rattle.std.proofs.lemmas.List.Folds.{flat_map-map}
-use Rattle.action.specs.declared.action.Action.{Action}
 use Rattle.action.specs.Bytes.{action_bytes}
 use Rattle.message.proofs.Buffers.{written_then}
-use Rattle.message.specs.declared.record.Interval.{Interval}
 use Rattle.message.specs.declared.record.Record.TheVariants as RecordKinds
 use Rattle.message.specs.Buffer.{overwritten}
 use Rattle.message.specs.Format.{Message, Section, format, head_of, header_bytes, header_of, interval_bytes, record_bytes, section_bytes, section_format, section_records}
@@ -24,19 +22,14 @@ pub length_joined : {X A : Type 0} (f : X → List A) (k : ℕ) → ((x : X) →
 length_joined f k each [] = omega arith
 length_joined f k each (x ∷ xs) = length-append (f x) (flat_map f xs) ∙ (λ i. each x i + length_joined f k each xs i) ∙ grind arith
 
-abbrev pub body_bytes : List Interval → List Action → List ℕ
-body_bytes intervals actions = flat_map interval_bytes intervals ++ flat_map action_bytes actions
-
-pub section_is : (s : Section) → section_format s ≡ section_bytes (head_of s) ++ body_bytes s.intervals s.actions
+-- a section's head, and then its blocks
+pub section_is : (s : Section) → section_format s ≡ section_bytes (head_of s) ++ (flat_map interval_bytes s.intervals ++ flat_map action_bytes s.actions)
 section_is s =
     ap (λ l. section_bytes (head_of s) ++ l) (flat_map-append record_bytes (map RecordKinds.Interval s.intervals) (map RecordKinds.Action s.actions) ∙ (λ i. flat_map-map record_bytes RecordKinds.Interval s.intervals i ++ flat_map-map record_bytes RecordKinds.Action s.actions i))
 
-pub length_body : (intervals : List Interval) (actions : List Action) → length (body_bytes intervals actions) ≡ 10 * length intervals + 16 * length actions
-length_body intervals actions =
-    length-append (flat_map interval_bytes intervals) (flat_map action_bytes actions) ∙ (λ i. length_joined interval_bytes 10 (λ _. refl) intervals i + length_joined action_bytes 16 (λ _. refl) actions i)
-
 pub length_section : (s : Section) → length (section_format s) ≡ 5 + (10 * length s.intervals + 16 * length s.actions)
-length_section s = ap length (section_is s) ∙ length-append (section_bytes (head_of s)) _ ∙ ap (λ n. 5 + n) (length_body s.intervals s.actions)
+length_section s =
+    ap length (section_is s) ∙ length-append (section_bytes (head_of s)) _ ∙ ap (λ n. 5 + n) (length-append (flat_map interval_bytes s.intervals) _ ∙ (λ i. length_joined interval_bytes 10 (λ _. refl) s.intervals i + length_joined action_bytes 16 (λ _. refl) s.actions i))
 
 pub format_is : (m : Message) → format m ≡ header_bytes (header_of m) ++ flat_map section_format m.sections
 format_is m = ap (λ l. header_bytes (header_of m) ++ l) (joined_joined record_bytes section_records m.sections)

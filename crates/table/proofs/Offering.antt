@@ -8,8 +8,8 @@ use Rattle.action.specs.declared.refusal.Refusal.{Refusal}
 use Rattle.action.specs.Lawful.{by_table, unless}
 use Rattle.action.specs.Bytes.{action_bytes}
 use Rattle.kind.specs.Meaning.{Meaning}
-use Rattle.message.specs.Format.{head_of, header_bytes, header_of, interval_bytes, section_bytes}
-use Rattle.message.proofs.Formats.{body_bytes, format_is, length_body, section_is}
+use Rattle.message.specs.Format.{head_of, header_bytes, header_of, interval_bytes, section_bytes, section_format}
+use Rattle.message.proofs.Formats.{format_is, length_section, section_is}
 use Rattle.table.specs.Offers.{offer_actions, offer_bytes, offer_interval, offer_intervals, offer_message, offer_refusal, offer_section}
 use Rattle.table.specs.View.{View}
 
@@ -26,8 +26,8 @@ module _ (kind : Meaning) (v : View) (p a : ℕ) where
 
   pub length_offer : length (offer_bytes kind v p a) ≡ 11 + 10 * v.setup.sites + 16 * length (offer_actions v p a)
   length_offer =
-      let body = body_bytes (offer_intervals v p a) (offer_actions v p a) in
-      ap length (format_is (offer_message kind v p a) ∙ ap (λ l. header ++ l) (append-nil _ ∙ section_is (offer_section v p a))) ∙ length-append header (head ++ body) ∙ ap (λ n. 6 + n) (length-append head body ∙ ap (λ n. 5 + n) (length_body (offer_intervals v p a) (offer_actions v p a))) ∙ omega (arith, length-map-range_with_len (offer_interval v p a) 0 v.setup.sites)
+      let section = offer_section v p a in
+      ap length (format_is (offer_message kind v p a) ∙ ap (λ l. header ++ l) (append-nil (section_format section))) ∙ length-append header (section_format section) ∙ ap (λ n. 6 + n) (length_section section) ∙ omega (arith, length-map-range_with_len (offer_interval v p a) 0 v.setup.sites)
 
   module _ (buffer : List ℕ) (article : a < v.setup.articles) (peer : p < v.setup.sites) where
     checked : (rest : Option Refusal) → unless (ltb a v.setup.articles) (by_table 4 0) (unless (ltb p v.setup.sites) (by_table 5 0) rest) ≡ rest
