@@ -43,17 +43,7 @@ abbrev pub lawful_header : Setup → Header → Bool
 lawful_header setup h = (nat_le 1 h.sections && nat_le h.sections 16) && nat_lt h.sender setup.sites
 
 abbrev pub after_header : Progress → Header → Progress
-after_header p h = record {
-  due = Due.Section;
-  sections = h.sections;
-  intervals = p.intervals;
-  actions = p.actions;
-  article = p.article;
-  next_article = p.next_article;
-  next_site = p.next_site;
-  spans = p.spans;
-  last = p.last;
-}
+after_header p h = record p { due = Due.Section; sections = h.sections }
 
 -- SECTION
 
@@ -81,16 +71,11 @@ lawful_interval setup p i =
     (nat_le p.next_site i.site && nat_lt i.site setup.sites) && (nat_le i.from i.to && nat_le i.to 4000000000)
 
 abbrev pub after_interval : Progress → Interval → Progress
-after_interval p i = record {
+after_interval p i = record p {
   due = due_after (p.intervals - 1) p.actions p.sections;
-  sections = p.sections;
   intervals = p.intervals - 1;
-  actions = p.actions;
-  article = p.article;
-  next_article = p.next_article;
   next_site = i.site + 1;
   spans = slice_set p.spans i.site (record { from = i.from; to = i.to });
-  last = p.last;
 }
 
 -- ACTION
@@ -103,17 +88,7 @@ lawful_action kind p x =
     (x.article == p.article && carries (slice_index_or p.spans x.coordinator no_span) x.time) && (precedes p.last x && ((nat_le 1 x.transaction && nat_le x.transaction x.time) && knows_action kind.knows x))
 
 abbrev pub after_action : Progress → Action → Progress
-after_action p x = record {
-  due = due_after 0 (p.actions - 1) p.sections;
-  sections = p.sections;
-  intervals = p.intervals;
-  actions = p.actions - 1;
-  article = p.article;
-  next_article = p.next_article;
-  next_site = p.next_site;
-  spans = p.spans;
-  last = x;
-}
+after_action p x = record p { due = due_after 0 (p.actions - 1) p.sections; actions = p.actions - 1; last = x }
 
 -- ANY RECORD
 

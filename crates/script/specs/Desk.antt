@@ -39,13 +39,13 @@ table_at d (suc (suc n)) = d.third
 
 -- the same desk, but for a site's table
 abbrev pub with_table : DeskView → ℕ → View → DeskView
-with_table d zero v = record { first = v; second = d.second; third = d.third; slots = d.slots }
-with_table d (suc zero) v = record { first = d.first; second = v; third = d.third; slots = d.slots }
-with_table d (suc (suc n)) v = record { first = d.first; second = d.second; third = v; slots = d.slots }
+with_table d zero v = record d { first = v }
+with_table d (suc zero) v = record d { second = v }
+with_table d (suc (suc n)) v = record d { third = v }
 
 -- the same desk, but for its slots
 abbrev pub with_slots : DeskView → List (List ℕ) → DeskView
-with_slots d slots = record { first = d.first; second = d.second; third = d.third; slots = slots }
+with_slots d slots = record d { slots = slots }
 
 -- what a command leaves of its site's table and of the slots, and what it answers
 pub record SiteTurn : Type 0 where

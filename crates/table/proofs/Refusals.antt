@@ -12,7 +12,7 @@ use Rattle.message.specs.Walks.{actions_of, records_in}
 use Rattle.message.proofs.Carried.{carried_of}
 use Rattle.message.proofs.Walking.{lawful_records}
 use Rattle.row.specs.Passes.{new_actions}
-use Rattle.table.specs.Room.{Admits, room_refusal}
+use Rattle.table.specs.Room.{Allows, room_refusal}
 use Rattle.table.specs.Taking.{TakeRefused, Took, is_ahead, is_behind, is_new, news, take_refusal, taken, unless_found}
 use Rattle.table.specs.Taking.TakeRefused.{checked}
 use Rattle.table.specs.View.{View}
@@ -67,6 +67,6 @@ module _ (kind : Meaning) (number_fits : kind.number ≤ 255) (v : View) (shut :
       take_whole fits n w count after = (shut, (sent, lawful, is, by_room ∙ fits, count ∙ ap length new_in, after))
 
 -- the check for room, which was made of the view as it was and for as many actions as are new
-pub checked_room : {v w : View} (same : v ≡ w) (bytes : List ℕ) {n : ℕ} (r : Result Unit HistoryFault) → n ≡ length (new_actions v.rows v.setup.own bytes) → ((new : List Action) → length new ≡ n → Admits (room_refusal w new) r) → Admits (room_refusal v (new_actions v.rows v.setup.own bytes)) r
+pub checked_room : {v w : View} (same : v ≡ w) (bytes : List ℕ) {n : ℕ} (r : Result Unit HistoryFault) → n ≡ length (new_actions v.rows v.setup.own bytes) → ((new : List Action) → length new ≡ n → Allows (room_refusal w new) r) → Allows (room_refusal v (new_actions v.rows v.setup.own bytes)) r
 checked_room {v} same bytes r counted check =
-    subst (λ (u : View). Admits (room_refusal u (new_actions v.rows v.setup.own bytes)) r) (sym same) (check _ (sym counted))
+    subst (λ (u : View). Allows (room_refusal u (new_actions v.rows v.setup.own bytes)) r) (sym same) (check _ (sym counted))

@@ -11,7 +11,7 @@ use Rattle.table.specs.View.{View}
 abbrev pub room_refusal : View → List Action → Option Refusal
 room_refusal v new = unless (nat_le (length v.history + length new) v.room.places) (by_history 16 v.room.places) None
 
--- a check of the history passes where nothing refuses, and tells the refusal where something does
-abbrev pub Admits : Option Refusal → Result Unit HistoryFault → Type 0
-Admits refusal (Ok _) = refusal ≡ None
-Admits refusal (Err e) = refusal ≡ Some (shown e)
+-- a check of the history passes where nothing refuses, and tells why where something does
+abbrev pub Allows : Option Refusal → Result Unit HistoryFault → Type 0
+Allows refusal (Ok _) = refusal ≡ None
+Allows refusal (Err e) = refusal ≡ Some (shown e)

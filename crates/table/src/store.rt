@@ -1,6 +1,6 @@
 ghost use Rattle.std.specs.Prelude.{◌≡◌, List, length};
 ghost use Rattle.action.specs.declared.action.Action.{Action as AnAction};
-ghost use Rattle.table.specs.Room.{Admits, room_refusal};
+ghost use Rattle.table.specs.Room.{Allows, room_refusal};
 
 use crate::state::State;
 use history::{History, HistoryFault};
@@ -25,7 +25,7 @@ impl<H: History> Model for Store<H> {
 impl<H: History> Store<H> {
     // Refuses so many new actions where the history has not room for them all.
     pub(crate) fn check_room(&self, more: usize) -> Result<(), HistoryFault>
-        ensures { (new : List AnAction) → length new ≡ more → Admits (room_refusal self.now new) result }
+        ensures { (new : List AnAction) → length new ≡ more → Allows (room_refusal self.now new) result }
     {
         let capacity = self.history.capacity();
         if more > capacity - self.history.count() {
