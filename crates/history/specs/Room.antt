@@ -7,6 +7,10 @@ pub record Room : Type 0 where
   -- the capacity: how many places there are in all
   pub places : ℕ
 
+-- no more places than a history may have
+abbrev pub Small : Room → Type 0
+Small room = room.places ≤ 1024
+
 -- there is room for new actions beside those that are held
 abbrev pub Fits : Room → List Action → List Action → Type 0
 Fits room held new = length held + length new ≤ room.places

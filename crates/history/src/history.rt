@@ -1,7 +1,7 @@
 ghost use Rattle.std.specs.Prelude.{◌≡◌, ℕ, ◌≤◌, List, length};
 ghost use Rattle.action.specs.declared.action.Action.{Action as AnAction};
 ghost use Rattle.history.specs.Changes.{Inserted, Read, Removed};
-ghost use Rattle.history.specs.Room.{Room};
+ghost use Rattle.history.specs.Room.{Room, Small};
 
 use crate::history_fault::HistoryFault;
 use action::Action;
@@ -42,5 +42,5 @@ pub trait History {
         ensures fixed { room self.new ≡ room self.old };
 
     // No list is longer than its capacity, and no capacity is above `MOST_PLACES`.
-    ghost bounded: { (h : Self) → (length (items h) ≤ (room h).places) × ((room h).places ≤ 1024) };
+    ghost bounded: { (h : Self) → (length (items h) ≤ (room h).places) × Small (room h) };
 }

@@ -2,7 +2,7 @@
 use Rattle.std.specs.Prelude.{◌≡◌, ℕ, ◌<◌, ◌≤◌, List, [], ◌∷◌, ◌++◌, map, Ok, ◌≢◌}
 use Rattle.std.specs.List.{ContainsAt as Has}
 use Rattle.action.specs.declared.setup.Setup.{Setup}
-use Rattle.history.specs.Room.{Room}
+use Rattle.history.specs.Room.{Room, Small}
 use Rattle.kind.specs.Meaning.{Meaning}
 use Rattle.table.specs.View.{View, fresh}
 use Rattle.runs.specs.Events.{Call, Does, Event, wrote}
@@ -23,7 +23,7 @@ pub record Group : Type 0 where
   pub setup : ℕ → Setup
   pub room : ℕ → Room
   pub agrees : (s : ℕ) → s < sites → OfGroup number sites articles s (setup s)
-  pub few_places : (s : ℕ) → s < sites → (room s).places ≤ 1024
+  pub few_places : (s : ℕ) → s < sites → Small (room s)
 
 -- what is taken was written in an earlier event, byte for byte; it may be taken late, often, anywhere or
 -- never
@@ -48,6 +48,6 @@ Ran kind group (event ∷ before) views =
 -- after earlier events, later ones, the latest first, lead from these tables to those; what they take may have
 -- been written by the earlier ones
 abbrev pub GoesOn : Meaning → Group → List Event → (ℕ → View) → List Event → (ℕ → View) → Type 0
-GoesOn kind group before from [] views = views ≡ from
+GoesOn kind group before from [] views = (s : ℕ) → s < group.sites → views s ≡ from s
 GoesOn kind group before from (event ∷ later) views =
     (old : ℕ → View) × GoesOn kind group before from later old × Turn kind group (later ++ before) event old views

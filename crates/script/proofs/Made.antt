@@ -65,10 +65,10 @@ figure_or_four : (known : Bool) (z y : ℤ) → (known ≡ true → z ≡ y) →
 figure_or_four true z y same = ap (λ f. Ok (Answers.Figure f)) (same refl)
 figure_or_four false z y same = refl
 
-module _ (kind : Meaning) (every_run : EveryRun kind (Standing kind)) (knows_moves : (amount : ℤ) → SixDigits amount → kind.knows 1 amount ≡ true) (group : Group) (run : List Event) (d : DeskView) (stood : AfterRun kind group run d) where
+module _ (kind : Meaning) (run_stands : EveryRun kind (Standing kind)) (knows_moves : (amount : ℤ) → SixDigits amount → kind.knows 1 amount ≡ true) (group : Group) (run : List Event) (d : DeskView) (stood : AfterRun kind group run d) where
   -- after a command: the calls that it made, and the desk at the end of the longer run
-  abbrev pub GoesOn : Command → Reply → DeskView → Type 0
-  GoesOn c a after = (calls : List Event) × Makes kind group run d c a calls × OnErr a (after ≡ d) × AfterRun kind group (calls ++ run) after
+  abbrev pub StandsAfter : Command → Reply → DeskView → Type 0
+  StandsAfter c a after = (calls : List Event) × Makes kind group run d c a calls × OnErr a (after ≡ d) × AfterRun kind group (calls ++ run) after
 
   slots_stay : (calls : List Event) → AllByRecursion (Kept (calls ++ run)) d.slots
   slots_stay calls = All-weaker (Kept run) (Kept (calls ++ run)) (kept_after calls run) d.slots stood.slots
@@ -83,7 +83,7 @@ module _ (kind : Meaning) (every_run : EveryRun kind (Standing kind)) (knows_mov
     inside = omega (arith, stood.sites_are)
 
     here : Site kind group (book group run) site v
-    here = (every_run group run (table_at d) stood.ran).sites site inside
+    here = (run_stands group run (table_at d) stood.ran).sites site inside
 
     shut : v.is_open ≡ false
     shut = stood.closed site acts
@@ -98,7 +98,7 @@ module _ (kind : Meaning) (every_run : EveryRun kind (Standing kind)) (knows_mov
     articles_are = ap (λ (s : Setup). s.articles) here.setup_is ∙ (group.agrees site inside).articles_are ∙ stood.articles_are
 
     places_are : v.room.places ≡ 64
-    places_are = ap (λ (r : Room). r.places) here.room_is ∙ stood.places_are site acts
+    places_are = ap (λ (r : Room). r.places) (here.room_is ∙ stood.rooms_are site acts)
 
     start : Ran kind group run (table_at (with_table d site v))
     start = subst (λ (e : DeskView). Ran kind group run (table_at e)) (with_its_own d site) stood.ran
@@ -127,7 +127,7 @@ module _ (kind : Meaning) (every_run : EveryRun kind (Standing kind)) (knows_mov
         (cases_eq s site)
 
     abbrev Reaches : Command → SiteTurn → Type 0
-    Reaches c t = GoesOn c t.answer (with_slots (with_table d site t.table) t.slots)
+    Reaches c t = StandsAfter c t.answer (with_slots (with_table d site t.table) t.slots)
 
     -- by these calls the command comes to what it leaves
     reaches : (c : Command) (t : SiteTurn) (calls : List Event) → Makes kind group run d c t.answer calls → Ran kind group (calls ++ run) (table_at (with_table d site t.table)) → AllByRecursion (Kept (calls ++ run)) t.slots → t.table.is_open ≡ false → OnErr t.answer ((t.table ≡ v) × (t.slots ≡ d.slots)) → Reaches c t
@@ -139,7 +139,7 @@ module _ (kind : Meaning) (every_run : EveryRun kind (Standing kind)) (knows_mov
         group_is = stood.group_is;
         sites_are = stood.sites_are;
         articles_are = stood.articles_are;
-        places_are = stood.places_are;
+        rooms_are = stood.rooms_are;
         ran = subst (Ran kind group (calls ++ run)) (λ i s. beside_slots (with_table d site t.table) t.slots s i) ran;
         closed = closed_still t.table t.slots closed;
         slots = kept;
@@ -147,8 +147,8 @@ module _ (kind : Meaning) (every_run : EveryRun kind (Standing kind)) (knows_mov
     )
 
     -- what it leaves is the site's table and the slots that are there now
-    lands : (c : Command) (t : SiteTurn) (a : Reply) (after : DeskView) → Reaches c t → record { table = table_at after site; slots = after.slots; answer = a } ≡ t → after ≡ with_slots (with_table d site (table_at after site)) after.slots → GoesOn c a after
-    lands c t a after goes is others = subst (GoesOn c a) (sym others) (subst (Reaches c) (sym is) goes)
+    lands : (c : Command) (t : SiteTurn) (a : Reply) (after : DeskView) → Reaches c t → record { table = table_at after site; slots = after.slots; answer = a } ≡ t → after ≡ with_slots (with_table d site (table_at after site)) after.slots → StandsAfter c a after
+    lands c t a after goes is others = subst (StandsAfter c a) (sym others) (subst (Reaches c) (sym is) goes)
 
     -- a command that makes no call
     leaves : (c : Command) (a : Reply) → Makes kind group run d c a [] → Reaches c (record { table = v; slots = d.slots; answer = a })
@@ -281,12 +281,12 @@ module _ (kind : Meaning) (every_run : EveryRun kind (Standing kind)) (knows_mov
     -- the site has four articles, and its figures are those that the run counts
     counts : (article : ℕ) → figure_reply v article ≡ counted_figure kind group run site article
     counts article =
-        let law = counts_each_once kind group run (table_at d) (every_run group run (table_at d) stood.ran) in
+        let law = counts_each_once kind group run (table_at d) (run_stands group run (table_at d) stood.ran) in
         ap (λ n. by_refusal (unless (ltb article n) (by_table 4 0) None) Err (Ok (Answers.Figure (figure v article)))) articles_are ∙ figure_or_four (ltb article 4) _ _ (λ known. law.figured site article inside (omega (arith, ltb-true article 4 known, stood.articles_are)))
 
   -- EVERY COMMAND
 
-  pub command_goes_on : (c : Command) (a : Reply) (after : DeskView) → Ranged c → Acts kind d c a after → GoesOn c a after
+  pub command_goes_on : (c : Command) (a : Reply) (after : DeskView) → Ranged c → Acts kind d c a after → StandsAfter c a after
   command_goes_on (Move site article amount slot) a after (acts, six) (is, others) = lands site acts (Move site article amount slot) _ a after (move_goes site acts article amount slot (omega (arith, ints)) (knows_moves amount six)) is others
   command_goes_on (Offer site peer article slot) a after acts (is, others) = lands site acts (Offer site peer article slot) _ a after (offer_goes site acts peer article slot) is others
   command_goes_on (Take site slot) a after acts (((r, took, told), stay), others) = lands site acts (Take site slot) _ a after (take_goes site acts slot r (table_at after site) took) (λ i. record { table = table_at after site; slots = stay i; answer = told i }) others

@@ -11,7 +11,7 @@ use Rattle.runs.specs.Runs.{Group}
 use Rattle.runs.proofs.Standing.{Standing}
 use Rattle.script.specs.declared.command.Command.{Command}
 use Rattle.script.specs.Acts.{Reply}
-use Rattle.script.specs.Desk.{DeskView, FreshDesk, FreshSite, Performs, PerformsCommand, table_at}
+use Rattle.script.specs.Desk.{DeskView, FreshDesk, FreshSite, Performs, PerformsCommand, desk_room, table_at}
 use Rattle.script.specs.Lines.{command}
 use Rattle.script.specs.Moves.{SixDigits}
 use Rattle.script.specs.Scripts.{PerformsAll, Scripted}
@@ -22,7 +22,7 @@ use Rattle.script.proofs.Ranges.{Ranged, command_ranged}
 module _ (kind : Meaning) where
   -- ONE LINE, AND ONE AFTER ANOTHER
 
-  module _ (every_run : EveryRun kind (Standing kind)) (knows_moves : (amount : ℤ) → SixDigits amount → kind.knows 1 amount ≡ true) where
+  module _ (run_stands : EveryRun kind (Standing kind)) (knows_moves : (amount : ℤ) → SixDigits amount → kind.knows 1 amount ≡ true) where
     pub line_stands : (d : DeskView) (index : ℕ) (line : List ℕ) (a : Reply) (after : DeskView) → Performs kind d index line a after → LineStands kind d index line a after
     line_stands d index line a after performs group run stood =
         let goes = by_command (command line) (command_ranged line) performs in
@@ -31,7 +31,7 @@ module _ (kind : Meaning) where
         by_command : (o : Option Command) → IfSome o Ranged → PerformsCommand kind d index o a after → (calls : List Event) × MakesLine kind group run d index o a calls after × AfterRun kind group (calls ++ run) after
         by_command None ranged is = ([], (refl, is.0, is.1), subst (AfterRun kind group run) (sym is.0) stood)
         by_command (Some c) ranged is =
-            let goes = command_goes_on kind every_run knows_moves group run d stood c a after ranged is in
+            let goes = command_goes_on kind run_stands knows_moves group run d stood c a after ranged is in
             (goes.0, (goes.1, goes.2), goes.3)
 
     lines_stand : (group : Group) (run : List Event) (d : DeskView) (index : ℕ) (lines : List (List ℕ)) (after : DeskView) (bytes : List ℕ) → PerformsAll kind d index lines after bytes → AfterRun kind group run d → (later : List Event) × PlaysAll kind group run d index lines later after bytes × AfterRun kind group later after
@@ -66,9 +66,9 @@ module _ (kind : Meaning) where
         sites = 3;
         articles = 4;
         setup = λ s. (table_at d s).setup;
-        room = λ s. record { places = 64 };
+        room = λ s. desk_room;
         agrees = λ s inside. let site = fresh_at d new s inside in record { group_is = site.group; sites_are = site.sites; articles_are = site.articles; own_is = site.own };
         few_places = λ s inside. omega arith;
       } in
       let none : AllByRecursion (Kept []) (replicate 10 []) = search rules in
-      (group, record { group_is = refl; sites_are = refl; articles_are = refl; places_are = λ s inside. refl; ran = λ s inside. (fresh_at d new s inside).new; closed = λ s inside. ap (λ (v : View). v.is_open) (fresh_at d new s inside).new; slots = subst (AllByRecursion (Kept [])) (sym new.slots) none })
+      (group, record { group_is = refl; sites_are = refl; articles_are = refl; rooms_are = λ s inside. refl; ran = λ s inside. (fresh_at d new s inside).new; closed = λ s inside. ap (λ (v : View). v.is_open) (fresh_at d new s inside).new; slots = subst (AllByRecursion (Kept [])) (sym new.slots) none })

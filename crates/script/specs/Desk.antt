@@ -1,6 +1,7 @@
 -- What a line does to the desk, and what it answers. Assumes nothing.
 use Rattle.std.specs.Prelude.{◌≡◌, ℕ, zero, suc, List, [], replicate, Some, None, Err, Option, Result, slice_index_or, slice_set}
 use Rattle.action.specs.Lawful.{by_table}
+use Rattle.history.specs.Room.{Room}
 use Rattle.kind.specs.Meaning.{Meaning}
 use Rattle.table.specs.View.{View, fresh}
 use Rattle.script.specs.declared.answer.Answer.{Answer}
@@ -17,13 +18,17 @@ pub record DeskView : Type 0 where
   pub third : View
   pub slots : List (List ℕ)
 
+-- room for 64 actions
+abbrev pub desk_room : Room
+desk_room = record { places = 64 }
+
 -- site `site` of three sites with four articles, with nothing recorded yet and 64 places to record in
 pub record FreshSite (kind : Meaning) (site : ℕ) (v : View) : Type 0 where
   pub group : v.setup.group ≡ 1
   pub sites : v.setup.sites ≡ 3
   pub own : v.setup.own ≡ site
   pub articles : v.setup.articles ≡ 4
-  pub new : v ≡ fresh kind v.setup (record { places = 64 })
+  pub new : v ≡ fresh kind v.setup desk_room
 
 -- a new desk: ten slots that hold nothing
 pub record FreshDesk (kind : Meaning) (d : DeskView) : Type 0 where

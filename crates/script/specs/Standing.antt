@@ -16,7 +16,7 @@ use Rattle.script.specs.declared.answer.Answer.TheVariants as Answers
 use Rattle.script.specs.declared.command.Command.{Command}
 use Rattle.script.specs.declared.command.Command.TheVariants.{Move, Offer, Take, Figure, OpenItem}
 use Rattle.script.specs.Acts.{Reply, open_item_reply, take_reply}
-use Rattle.script.specs.Desk.{DeskView, Performs, table_at}
+use Rattle.script.specs.Desk.{DeskView, Performs, desk_room, table_at}
 use Rattle.script.specs.Lines.{command}
 use Rattle.script.specs.Scripts.{script}
 use Rattle.script.specs.Sheets.{Printed}
@@ -35,7 +35,7 @@ pub record AfterRun (kind : Meaning) (group : Group) (run : List Event) (d : Des
   pub group_is : group.number ≡ 1
   pub sites_are : group.sites ≡ 3
   pub articles_are : group.articles ≡ 4
-  pub places_are : (site : ℕ) → site < 3 → (group.room site).places ≡ 64
+  pub rooms_are : (site : ℕ) → site < 3 → group.room site ≡ desk_room
   pub ran : Ran kind group run (table_at d)
   pub closed : (site : ℕ) → site < 3 → (table_at d site).is_open ≡ false
   pub slots : AllByRecursion (Kept run) d.slots

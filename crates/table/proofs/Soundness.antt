@@ -10,7 +10,7 @@ use Rattle.action.specs.declared.refusal.Refusal.{Refusal}
 use Rattle.action.specs.declared.setup.Setup.{Setup}
 use Rattle.action.specs.Lawful.{unless}
 use Rattle.action.proofs.Sequence.{ascending_append}
-use Rattle.history.specs.Room.{Fits, Room}
+use Rattle.history.specs.Room.{Fits, Room, Small}
 use Rattle.kind.specs.Meaning.{Meaning}
 use Rattle.kind.specs.Working.{on, working}
 use Rattle.kind.proofs.Workings.{on_append, working_append}
@@ -38,7 +38,7 @@ room_for v new h = leb-true (length v.history + length new) v.room.places (passe
 
 -- NEW
 
-module _ (kind : Meaning) (setup : Setup) (room : Room) (few_places : room.places ≤ 1024) (start_fits : SFits w64 kind.starts) where
+module _ (kind : Meaning) (setup : Setup) (room : Room) (few_places : Small room) (start_fits : SFits w64 kind.starts) where
   abbrev first : View
   first = fresh kind setup room
 

@@ -5,6 +5,7 @@ use Rattle.std.specs.List.{AllByRecursion}
 use Rattle.action.specs.declared.action.Action.{Action}
 use Rattle.action.specs.declared.setup.Setup.{Setup}
 use Rattle.action.specs.Order.{Ascending}
+use Rattle.history.specs.Room.{Small}
 use Rattle.kind.specs.Meaning.{Meaning}
 use Rattle.kind.specs.Working.{knows_action, on, working}
 use Rattle.table.specs.View.{View, entry, row}
@@ -42,7 +43,7 @@ pub record Sound (kind : Meaning) (v : View) : Type 0 where
   -- the history is in strict order and within its room
   pub ordered : Ascending v.history
   pub held : length v.history ≤ v.room.places
-  pub few_places : v.room.places ≤ 1024
+  pub few_places : Small v.room
   pub fitting : AllByRecursion (Fitting kind v.setup) v.history
   -- the reception vector has reached every action of the history
   pub reached : AllByRecursion (λ x. x.time ≤ entry v x.article v.setup.own x.coordinator) v.history
