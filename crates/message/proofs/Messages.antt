@@ -20,7 +20,7 @@ use Rattle.message.specs.Reading.{onward, reading}
 use Rattle.message.specs.Rules.{LawfulHeader, Names, is_due}
 use Rattle.message.proofs.Onward.{first_on, header_on}
 use Rattle.message.proofs.Parts.{Part, RunOf, due_first, followed_by, many, one, put_together, sections_due}
-use Rattle.message.proofs.Sections.{SectionPasses, after_all, section_part, sections_left, sections_pass, sections_told}
+use Rattle.message.proofs.Sections.{SectionPasses, after_all, section_part, sections_left, sections_pass, sections_lawful}
 
 -- THE HEADER
 
@@ -86,7 +86,7 @@ module _ (kind : Meaning) (setup : Setup) where
       let same : rs ≡ records m = t.front ∙ ap (λ l. records m ++ l) none ∙ append-nil (records m) in
       let names = names_told kind setup (header_of m) t.passes.0.0 in
       let told = header_told setup (header_of m) t.passes.0.1 in
-      let ss = sections_told kind setup (after_header start (header_of m)) m.sections t.passes.1.1 (subst (AllByRecursion Fitting) same fits).1 in (
+      let ss = sections_lawful kind setup (after_header start (header_of m)) m.sections t.passes.1.1 (subst (AllByRecursion Fitting) same fits).1 in (
         m,
         record { of_group = names.0; of_kind = names.1; sent = told.sent; some = told.some; few = told.few; sections = ss.0; rising = ss.1 },
         sym same,

@@ -1,5 +1,5 @@
 -- The parts of a message, and how they are read: one record, as many of one part as are to come, and one part after
--- another. Assumes nothing.
+-- another. A section is a head and then its blocks, which are its intervals and its actions. Assumes nothing.
 use Rattle.std.proofs.Common.{◌≡◌, ℕ, zero, suc, ◌-◌, ◌≤◌, true, cond, ltb, List, [], ◌∷◌, ◌++◌, map, length, Some, Ok, fold, sym, refl, ap, ◌∙◌, subst, arith}
 use Rattle.std.specs.List.{flat_map, AllByRecursion}
 use Rattle.std.proofs.ByRecursion.{All-map, All-weaker}
@@ -173,7 +173,7 @@ module _ (kind : Meaning) (setup : Setup) where
 
   -- PARTS PUT TOGETHER
 
-  -- what is put together of parts, where any parts that pass can be
+  -- a thing whose records are those of its parts, where any parts that pass make up such a thing
   module _ {X Y : Type 0} {records : Y → List Record} {Passes : Progress → Y → Type 0} {after : Progress → Y → Progress} {now next : Progress → Due} where
     pub put_together : Part records Passes after now next → (parts : X → Y) (as_records : X → List Record) → ((x : X) → as_records x ≡ records (parts x)) → ((p : Progress) (y : Y) → Passes p y → (x : X) × (y ≡ parts x)) → Part as_records (λ p x. Passes p (parts x)) (λ p x. after p (parts x)) now next
     put_together part parts as_records same whole = record {

@@ -164,8 +164,8 @@ module _ (kind : Meaning) (setup : Setup) (p : Progress) (s : Section) where
 
 module _ (kind : Meaning) (setup : Setup) where
   -- sections that pass one after another are lawful, their articles rising
-  pub sections_told : (p : Progress) (ss : List Section) → Run (SectionPasses kind setup) after_all p ss → AllByRecursion Fitting (flat_map section_records ss) → AllByRecursion (LawfulSection kind setup) ss × Rising (map (λ s. s.article) ss)
-  sections_told p ss run fits =
+  pub sections_lawful : (p : Progress) (ss : List Section) → Run (SectionPasses kind setup) after_all p ss → AllByRecursion Fitting (flat_map section_records ss) → AllByRecursion (LawfulSection kind setup) ss × Rising (map (λ s. s.article) ss)
+  sections_lawful p ss run fits =
       let t = run_told (SectionPasses kind setup) after_all (λ s. s.article) (λ a b. a < b) (λ _ s. AllByRecursion Fitting (section_records s) → LawfulSection kind setup s) (λ p a. p.next_article ≤ a) (λ p s run. (section_lawful kind setup p s run, (head_told setup p (head_of s) run.0).least)) (λ _ _ _ l. l) (λ p s t h. omega (arith, next_article p s)) (λ p s t h k. omega arith) p ss run in
       (all_both _ _ (LawfulSection kind setup) (λ s f l. l f) ss (all_from_joined section_records Fitting ss fits) t.0, t.2)
 
